@@ -1,0 +1,9 @@
+pub mod Search
+pub mod SearchLaws
+pub mod Splice
+pub mod SpliceLaws
+pub mod WritingLaws
+pub mod Tests
+pub mod TestsLaws
+pub mod Order
+pub mod OrderLaws
