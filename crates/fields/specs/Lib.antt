@@ -1,4 +1,6 @@
 pub mod Word
 pub mod WordLaws
+pub mod Tag
+pub mod TagLaws
 pub mod Bytes
 pub mod BytesLaws

@@ -155,6 +155,9 @@ taken fs from e t h = ap from (reads-pack 32 fs t h) ∙ e
 pub built : (fs : List Field) (word : ℕ) → word < 2 ^ 32 → T (tiles 32 fs) → reads fs word ≡ values fs → pack fs ≡ word
 built fs word l t e = pack-reads 32 fs word t e ∙ mod-eq-of-lt l
 
+pub true-T : {b : Bool} → b ≡ true → T b
+true-T e = rw e tt
+
 -- a field is within its width
 pub field-lt : (word place width : ℕ) → fieldAt word place width < 2 ^ width
 unfolding fieldAt

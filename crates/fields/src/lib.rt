@@ -1,6 +1,7 @@
-// One 32-bit word: a field put in and taken out by shifts and masks, and a word as four big-endian bytes.
+// One 32-bit word: a field put in and taken out by shifts and masks, the tag on top, and a word as four big-endian bytes.
 ghost use mathlib.Core.Path.{_≡_};
 ghost use Rattle.fields.specs.Word.{fieldAt, putAt};
+ghost use Rattle.fields.specs.Tag.{isDefining, isContinuation};
 ghost use Rattle.fields.specs.Bytes.{wordOfBytes, bytesOf};
 
 // The field of `width` bits from bit `place` on. Nothing is out of range: past bit 31 there are zeros.
@@ -26,6 +27,32 @@ pub fn put(word: u32, place: u32, value: u32) -> u32
         return word;
     }
     (word & ((1 << place) - 1)) | (value << place)
+}
+
+// A defining word: bit 31 set and the type in bits 30-27, on top of its fields.
+pub fn defining(fields: u32, tag: u32) -> u32
+    ensures { λ r. ⌜ r ≡ putAt (putAt fields 27 tag) 31 1 ⌝ }
+{
+    put(put(fields, 27, tag), 31, 1)
+}
+
+// A continuation word: bit 31 clear, on top of its fields.
+pub fn continuation(fields: u32) -> u32
+    ensures { λ r. ⌜ r ≡ putAt fields 31 0 ⌝ }
+{
+    put(fields, 31, 0)
+}
+
+pub fn is_defining(word: u32, tag: u32) -> bool
+    ensures { λ r. ⌜ r ≡ isDefining tag word ⌝ }
+{
+    (take(word, 31, 1) == 1) & (take(word, 27, 4) == tag)
+}
+
+pub fn is_continuation(word: u32) -> bool
+    ensures { λ r. ⌜ r ≡ isContinuation word ⌝ }
+{
+    take(word, 31, 1) == 0
 }
 
 fn wide(b: u8) -> u32

@@ -1,0 +1,11 @@
+-- `frame::parameters::Parameters::fixed` meets its contract.
+use Rattle.frame.specs.Words.{parametersFixed}
+use Rattle.frame.proofs.parameters.Parameters.fixed.Statement.{statement}
+use Rattle.frame.proofs.parameters.Parameters.fixed.Tie as tie
+
+returns : tie.Need-returns
+unfolding parametersFixed
+returns c = cc
+
+pub fixed-spec : {M : Type 1} → statement M
+fixed-spec = tie.close (tie.spec (λ c κs. tt) returns)

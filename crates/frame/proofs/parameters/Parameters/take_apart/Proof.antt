@@ -1,0 +1,11 @@
+-- `frame::parameters::Parameters::take_apart` meets its contract, field by field.
+use Rattle.frame.specs.Words.{parametersOf}
+use Rattle.frame.proofs.parameters.Parameters.take_apart.Statement.{statement}
+use Rattle.frame.proofs.parameters.Parameters.take_apart.Tie as tie
+
+returns : tie.Need-returns
+unfolding parametersOf
+returns c = cc
+
+pub take-apart-spec : {M : Type 1} → statement M
+take-apart-spec = tie.close (tie.spec (λ c κs. tt) (λ c κs. tt) (λ c κs. tt) returns)
