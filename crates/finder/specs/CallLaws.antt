@@ -2,19 +2,19 @@
 use Prim.Native.Nat.{ℕ, _≤_}
 use mathlib.Core.Path.{_≡_, refl, sym, _∙_}
 use mathlib.Core.Bool.{true, false}
-use mathlib.Core.List.{List}
-use borrow.Author.Tests.{ltb-false, eqb-true, not-false}
-use lib.Dec.{eqb}
-use lib.ListN.{length, getD, replicate}
-use Rattle.ground.specs.TestsLaws.{none}
+use mathlib.Core.List.{List, [], _∷_}
+use borrow.Author.Tests.{le-leb, ltb-false, eqb-true, not-false}
+use lib.Dec.{leb, eqb}
+use lib.ListN.{length}
+use Rattle.ground.specs.TestsLaws.{all-of, none}
 use Rattle.settings.specs.declared.Settings.{Settings}
+use Rattle.settings.specs.Ranges.{mostSamples}
 use Rattle.settings.specs.RangesLaws.{InRange, settings-in-range}
 use Rattle.settings.specs.Sample.{samplesOk}
 use Rattle.settings.specs.RefusalLaws.{number-inj}
-use Rattle.finder.specs.declared.Pulse.{Pulse}
-use Rattle.finder.specs.declared.Pulses.{Pulses}
 use Rattle.finder.specs.declared.Answer.{Answer}
-use Rattle.finder.specs.Find.{noPulse, packed, findAll}
+use Rattle.finder.specs.Find.{pulsesFrom, packed, findAll}
+use Rattle.finder.specs.FindLaws.{find-all}
 use Rattle.finder.specs.Call.{findTable, findNumber, channelPulses, foundPulses, FindSays}
 
 pub record Accepted (s : Settings) (c : ℕ) (w : List ℕ) : Type 0 where
@@ -34,15 +34,21 @@ accepted s c w h =
       samples = not-false _ (rows .1 .1 .1 .0);
     }
 
-pub found-none : (s : Settings) (c : ℕ) (w : List ℕ) (x : Pulse) → eqb (findNumber s c w) 0 ≡ false → x ≡ noPulse
-    → _≡_ {A = Pulses} (record { count = 0; pulses = replicate 3 x }) (packed (foundPulses s c w))
-unfolding foundPulses packed
-found-none s c w x h e = rw (h, e)
+pub found-none : (s : Settings) (c : ℕ) (w : List ℕ) → eqb (findNumber s c w) 0 ≡ false → foundPulses s c w ≡ []
+unfolding foundPulses
+found-none s c w h = rw h
 
-pub found-all : (s : Settings) (c : ℕ) (w : List ℕ) (f : Pulses) → eqb (findNumber s c w) 0 ≡ true
-    → f ≡ findAll w (getD (s .thresholds) c 0) (s .nsb) (s .nsa) (s .limit) → f ≡ packed (foundPulses s c w)
-unfolding foundPulses channelPulses findAll
-found-all s c w f h e = rw h e
+pub found-all : (s : Settings) (c : ℕ) (w : List ℕ) → eqb (findNumber s c w) 0 ≡ true → foundPulses s c w ≡ channelPulses s c w
+unfolding foundPulses
+found-all s c w h = rw h
+
+-- with settings in range a caller that made the refusals itself gets every pulse
+pub find-in-range : (s : Settings) (w : List ℕ) (t : ℕ) → InRange s → length w ≤ mostSamples
+    → findAll w t (s .nsb) (s .nsa) (s .limit) ≡ packed (pulsesFrom w t (s .nsb) (s .nsa) (s .limit) 0)
+find-in-range s w t r h =
+    find-all w t (s .nsb) (s .nsa) (s .limit)
+    (all-of (leb (length w) mostSamples ∷ leb 1 (s .nsa) ∷ leb (s .nsa) 511 ∷ leb (s .limit) 3 ∷ [])
+    (le-leb _ _ h, (le-leb _ _ (r .nsa .0), (le-leb _ _ (r .nsa .1), (le-leb _ _ (r .limit .1), tt)))))
 
 -- two answers that the contract allows are equal
 pub find-unique : (s : Settings) (c : ℕ) (w : List ℕ) (a b : Answer) → FindSays s c w a → FindSays s c w b → a ≡ b

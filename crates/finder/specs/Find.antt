@@ -6,6 +6,8 @@ use lib.ListN.{length, getD, replicate}
 use lib.Seq.{sets}
 use lib.Dec.{ltb, leb, eqb}
 use Rattle.ground.specs.Search.{least, greatest, sumOver}
+use Rattle.ground.specs.Tests.{allOf}
+use Rattle.settings.specs.Ranges.{mostSamples}
 use Rattle.settings.specs.Sample.{amp}
 use Rattle.finder.specs.declared.Rule.{Rule}
 use Rattle.finder.specs.declared.Rule.the-variants.{Early, Late, Flat, Edge}
@@ -147,6 +149,10 @@ noPulse = record { tc = 0; first = 0; last = 0; sum = 0; time = tcOnly 0 0 Early
 unfoldable pub packed : List Pulse → Pulses
 packed l = record { count = length l; pulses = sets (replicate 3 noPulse) 0 l }
 
--- the pulses of a window, without the refusals
+-- what settings in range say of a search: the samples, NSA and the limit
+abbrev pub searchable : ℕ → ℕ → ℕ → Bool
+searchable n nsa limit = allOf (leb n mostSamples ∷ leb 1 nsa ∷ leb nsa 511 ∷ leb limit 3 ∷ [])
+
+-- the pulses alone, for a caller that made the refusals itself
 unfoldable pub findAll : List ℕ → ℕ → ℕ → ℕ → ℕ → Pulses
-findAll w t nsb nsa limit = packed (pulsesFrom w t nsb nsa limit 0)
+findAll w t nsb nsa limit = packed (cond (searchable (length w) nsa limit) (pulsesFrom w t nsb nsa limit 0) [])

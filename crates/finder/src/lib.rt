@@ -3,10 +3,11 @@ use settings::Refusal;
 use settings::Settings;
 ghost use mathlib.Core.Path.{_≡_};
 ghost use Prim.Native.Nat.{_≤_};
+ghost use mathlib.Core.List.{[]};
 ghost use lib.ListN.{length};
 ghost use Rattle.settings.specs.Ranges.{mostSamples};
 ghost use Rattle.settings.specs.Refusal.{numberOf};
-ghost use Rattle.finder.specs.Find.{ampAt, over, firstOver, overIn, anyOver, nextTc, tcFrom, setFirst, setLast, integral, early, vmin, firstFall, n1, edgeTime, tcOnly, timeAt, pulseAt, noPulse, findAll, ruleNumber};
+ghost use Rattle.finder.specs.Find.{ampAt, over, firstOver, overIn, anyOver, nextTc, tcFrom, setFirst, setLast, integral, early, vmin, firstFall, n1, edgeTime, tcOnly, timeAt, pulseAt, pulsesFrom, noPulse, packed, findAll, ruleNumber};
 ghost use Rattle.finder.specs.Call.{findNumber, FindSays};
 ghost use Rattle.finder.specs.Asked.{IsOver, HasEdge};
 
@@ -305,10 +306,20 @@ fn no_pulse() -> Pulse
     }
 }
 
+fn no_pulses() -> Pulses
+    ensures { λ r. ⌜ r ≡ packed [] ⌝ }
+{
+    let none = no_pulse();
+    Pulses {
+        count: 0,
+        pulses: [none; 3],
+    }
+}
+
 // Every pulse of the window, up to the limit. No search begins once the limit is reached.
-pub fn pulses_of(window: &[u16], threshold: u32, nsb: usize, nsa: usize, limit: usize) -> Pulses
+fn all_pulses(window: &[u16], threshold: u32, nsb: usize, nsa: usize, limit: usize) -> Pulses
     requires { ⌜ (length (now window) ≤ mostSamples) × (1 ≤ nsa) × (nsa ≤ 511) × (limit ≤ 3) ⌝ }
-    ensures { λ r. ⌜ r ≡ findAll (now (window .entry)) threshold nsb nsa limit ⌝ }
+    ensures { λ r. ⌜ r ≡ packed (pulsesFrom (now (window .entry)) threshold nsb nsa limit 0) ⌝ }
 {
     let none = no_pulse();
     let mut pulses = [none; 3];
@@ -324,6 +335,17 @@ pub fn pulses_of(window: &[u16], threshold: u32, nsb: usize, nsa: usize, limit: 
         s = tc + nsa;
     }
     Pulses { count, pulses }
+}
+
+// The pulses alone, for a caller that made the refusals itself. Numbers that no settings in range have give none.
+pub fn pulses_of(window: &[u16], threshold: u32, nsb: usize, nsa: usize, limit: usize) -> Pulses
+    ensures { λ r. ⌜ r ≡ findAll (now (window .entry)) threshold nsb nsa limit ⌝ }
+{
+    if (window.len() <= settings::MOST_SAMPLES) & (1 <= nsa) & (nsa <= 511) & (limit <= 3) {
+        all_pulses(window, threshold, nsb, nsa, limit)
+    } else {
+        no_pulses()
+    }
 }
 
 // Why the finder refuses, in the paper's order.
@@ -351,16 +373,12 @@ pub fn find(settings: Settings, channel: usize, window: &[u16]) -> Answer
 {
     let refusal = refusal_of(settings, channel, window);
     if !settings::accepted(refusal) {
-        let none = no_pulse();
-        let found = Pulses {
-            count: 0,
-            pulses: [none; 3],
-        };
+        let found = no_pulses();
         return Answer { refusal, found };
     }
     let thresholds = settings.thresholds;
     let threshold = thresholds[channel];
-    let found = pulses_of(
+    let found = all_pulses(
         window,
         threshold,
         settings.nsb,

@@ -105,7 +105,8 @@ fn thresholds_ok(thresholds: &[u32]) -> bool
     good
 }
 
-const MOST_SAMPLES: usize = 500;
+// The greatest NW.
+pub const MOST_SAMPLES: usize = 500;
 
 // Every setting is in its range.
 pub fn in_range(s: Settings) -> bool
