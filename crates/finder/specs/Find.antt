@@ -29,6 +29,14 @@ over w t k = ltb t (ampAt w k)
 unfoldable pub firstOver : List ℕ → ℕ → ℕ → ℕ
 firstOver w t n = least (over w t) 0 n
 
+-- one of the first n samples is over
+unfoldable pub overIn : List ℕ → ℕ → ℕ → Bool
+overIn w t n = ltb 0 (firstOver w t n)
+
+-- "if any sample is over"
+abbrev pub anyOver : List ℕ → ℕ → Bool
+anyOver w t = overIn w t (length w)
+
 -- "that is over and whose neighbour k-1 is not over"
 unfoldable pub starts : List ℕ → ℕ → ℕ → Bool
 starts w t k = over w t k && not (over w t (k - 1))
@@ -56,14 +64,6 @@ unfoldable pub integral : List ℕ → ℕ → ℕ → ℕ
 integral w first last = sumOver (ampAt w) (first - 1) last
 
 -- ---- its high-resolution time
-
--- one of the first n samples is over
-unfoldable pub overIn : List ℕ → ℕ → ℕ → Bool
-overIn w t n = ltb 0 (firstOver w t n)
-
--- "if any sample is over"
-abbrev pub anyOver : List ℕ → ℕ → Bool
-anyOver w t = overIn w t (length w)
 
 -- "1. NW < 4, or one of the first four samples is over"
 unfoldable pub early : List ℕ → ℕ → Bool
@@ -128,6 +128,7 @@ ruleNumber Edge = 4
 
 -- ---- all pulses
 
+-- the pulse at TC
 unfoldable pub pulseAt : List ℕ → ℕ → ℕ → ℕ → ℕ → Pulse
 pulseAt w t nsb nsa tc =
     let first : ℕ = setFirst tc nsb in
