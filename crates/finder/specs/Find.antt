@@ -1,0 +1,159 @@
+-- The pulses of one window: document 01, "Finding pulses". "Samples are numbered from 1", so 0 says that a search found none. Assumes nothing.
+use Prim.Native.Nat.{ℕ, zero, suc, _+_, _-_, _*_, _/_, min, max}
+use mathlib.Core.Bool.{Bool, not, _&&_, _||_, cond}
+use mathlib.Core.List.{List, [], _∷_}
+use lib.ListN.{length, getD, replicate}
+use lib.Seq.{sets}
+use lib.Dec.{ltb, leb, eqb}
+use Rattle.ground.specs.Search.{least, greatest, sumOver}
+use Rattle.ground.specs.Tests.{allOf}
+use Rattle.settings.specs.Ranges.{mostSamples}
+use Rattle.settings.specs.Sample.{amp}
+use Rattle.finder.specs.declared.Rule.{Rule}
+use Rattle.finder.specs.declared.Rule.the-variants.{Early, Late, Flat, Edge}
+use Rattle.finder.specs.declared.Time.{Time}
+use Rattle.finder.specs.declared.Pulse.{Pulse}
+use Rattle.finder.specs.declared.Pulses.{Pulses}
+
+-- V(k), the amplitude of sample k
+unfoldable pub ampAt : List ℕ → ℕ → ℕ
+ampAt w k = amp (getD w (k - 1) 0)
+
+-- ---- where a pulse is
+
+-- ""Over" means V greater than the threshold."
+unfoldable pub over : List ℕ → ℕ → ℕ → Bool
+over w t k = ltb t (ampAt w k)
+
+-- "First pulse: TC is the least number that is over." Of the first n samples.
+unfoldable pub firstOver : List ℕ → ℕ → ℕ → ℕ
+firstOver w t n = least (over w t) 0 n
+
+-- one of the first n samples is over
+unfoldable pub overIn : List ℕ → ℕ → ℕ → Bool
+overIn w t n = ltb 0 (firstOver w t n)
+
+-- "if any sample is over"
+abbrev pub anyOver : List ℕ → ℕ → Bool
+anyOver w t = overIn w t (length w)
+
+-- "that is over and whose neighbour k-1 is not over"
+unfoldable pub starts : List ℕ → ℕ → ℕ → Bool
+starts w t k = over w t k && not (over w t (k - 1))
+
+-- "Next pulse: with s = TC + NSA, the next TC is the least k, s < k <= NW, that is over and whose neighbour k-1 is not over."
+unfoldable pub nextTc : List ℕ → ℕ → ℕ → ℕ
+nextTc w t s = least (starts w t) s (length w)
+
+-- the TC that the search from s finds; s is 0 for the first pulse
+unfoldable pub tcFrom : List ℕ → ℕ → ℕ → ℕ
+tcFrom w t zero = firstOver w t (length w)
+tcFrom w t (suc s) = nextTc w t (suc s)
+
+-- ---- its data set
+
+-- "Data set: max(TC - NSB, 1) to min(TC + NSA - 1, NW)."
+abbrev pub setFirst : ℕ → ℕ → ℕ
+setFirst tc nsb = max (tc - nsb) 1
+
+abbrev pub setLast : ℕ → ℕ → ℕ → ℕ
+setLast tc nsa nw = min (tc + nsa - 1) nw
+
+-- "Integral: sum of V over the set, no pedestal taken off."
+unfoldable pub integral : List ℕ → ℕ → ℕ → ℕ
+integral w first last = sumOver (ampAt w) (first - 1) last
+
+-- ---- its high-resolution time
+
+-- "1. NW < 4, or one of the first four samples is over"
+unfoldable pub early : List ℕ → ℕ → Bool
+early w t = ltb (length w) 4 || overIn w t 4
+
+-- "VMIN = floor(sum of the first four V / 4)."
+unfoldable pub vmin : List ℕ → ℕ
+vmin w = integral w 1 4 / 4
+
+-- "with V(k) < V(k-1)"
+unfoldable pub falls : List ℕ → ℕ → Bool
+falls w k = ltb (ampAt w k) (ampAt w (k - 1))
+
+-- "Let k be the least number, TC < k <= NW, with V(k) < V(k-1)."
+unfoldable pub firstFall : List ℕ → ℕ → ℕ
+firstFall w tc = least (falls w) tc (length w)
+
+-- "VMID = floor((VPEAK + VMIN) / 2)."
+unfoldable pub vmid : ℕ → ℕ → ℕ
+vmid vpeak low = (vpeak + low) / 2
+
+-- "with V(N1) <= VMID"
+unfoldable pub atMost : List ℕ → ℕ → ℕ → Bool
+atMost w mid k = leb (ampAt w k) mid
+
+-- "N1 is the greatest number below P with V(N1) <= VMID."
+unfoldable pub n1 : List ℕ → ℕ → ℕ → ℕ
+n1 w mid peak = greatest (atMost w mid) peak
+
+-- "fine is floor(64 x (VMID - V(N1)) / (V(N1+1) - V(N1)))"
+unfoldable pub fineOf : ℕ → ℕ → ℕ → ℕ
+fineOf mid from to = 64 * (mid - from) / (to - from)
+
+-- "time is TC, fine 0, .. VPEAK 0"
+abbrev pub tcOnly : ℕ → ℕ → Rule → Time
+tcOnly tc low rule = record { coarse = tc; fine = 0; vmin = low; vpeak = 0; rule = rule }
+
+-- "Else P = k-1, VPEAK = V(P). .. Coarse is N1"
+unfoldable pub edgeTime : List ℕ → ℕ → ℕ → Time
+edgeTime w low peak =
+    let mid : ℕ = vmid (ampAt w peak) low in
+    let n : ℕ = n1 w mid peak in
+    record { coarse = n; fine = fineOf mid (ampAt w n) (ampAt w (n + 1)); vmin = low; vpeak = ampAt w peak; rule = Edge }
+
+-- "None: as in 2. Else P = k-1"
+unfoldable pub afterFall : List ℕ → ℕ → ℕ → Time
+afterFall w tc k = cond (eqb k 0) (tcOnly tc (vmin w) Flat) (edgeTime w (vmin w) (k - 1))
+
+-- "High-resolution time, checked in this order: 1. .. time is TC, fine 0, VMIN 0, VPEAK 0. 2. .. If NW - TC < 5: time TC, fine 0, VPEAK 0."
+unfoldable pub timeAt : List ℕ → ℕ → ℕ → Time
+timeAt w t tc =
+    cond (early w t) (tcOnly tc 0 Early)
+    (cond (ltb (length w - tc) 5) (tcOnly tc (vmin w) Late)
+    (afterFall w tc (firstFall w tc)))
+
+-- the paper's number of a rule
+abbrev pub ruleNumber : Rule → ℕ
+ruleNumber Early = 1
+ruleNumber Late = 2
+ruleNumber Flat = 3
+ruleNumber Edge = 4
+
+-- ---- all pulses
+
+-- the pulse at TC
+unfoldable pub pulseAt : List ℕ → ℕ → ℕ → ℕ → ℕ → Pulse
+pulseAt w t nsb nsa tc =
+    let first : ℕ = setFirst tc nsb in
+    let last : ℕ = setLast tc nsa (length w) in
+    record { tc = tc; first = first; last = last; sum = integral w first last; time = timeAt w t tc }
+
+-- "Stop at the limit or when there is none." At most n pulses, from s on.
+unfoldable pub pulsesFrom : List ℕ → ℕ → ℕ → ℕ → ℕ → ℕ → List Pulse
+pulsesFrom w t nsb nsa zero s = []
+pulsesFrom w t nsb nsa (suc n) s =
+    let tc : ℕ = tcFrom w t s in
+    cond (eqb tc 0) [] (pulseAt w t nsb nsa tc ∷ pulsesFrom w t nsb nsa n (tc + nsa))
+
+-- what stands where there is no pulse
+unfoldable pub noPulse : Pulse
+noPulse = record { tc = 0; first = 0; last = 0; sum = 0; time = tcOnly 0 0 Early }
+
+-- "Pulses are numbered from 0." A list of pulses in three places
+unfoldable pub packed : List Pulse → Pulses
+packed l = record { count = length l; pulses = sets (replicate 3 noPulse) 0 l }
+
+-- what settings in range say of a search: the samples, NSA and the limit
+abbrev pub searchable : ℕ → ℕ → ℕ → Bool
+searchable n nsa limit = allOf (leb n mostSamples ∷ leb 1 nsa ∷ leb nsa 511 ∷ leb limit 3 ∷ [])
+
+-- the pulses alone, for a caller that made the refusals itself
+unfoldable pub findAll : List ℕ → ℕ → ℕ → ℕ → ℕ → Pulses
+findAll w t nsb nsa limit = packed (cond (searchable (length w) nsa limit) (pulsesFrom w t nsb nsa limit 0) [])

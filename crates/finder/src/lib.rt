@@ -1,0 +1,389 @@
+// The pulse finder: document 01, "Finding pulses". Samples are numbered from 1, so 0 says that a search found none.
+use settings::Refusal;
+use settings::Settings;
+ghost use mathlib.Core.Path.{_≡_};
+ghost use Prim.Native.Nat.{_≤_};
+ghost use mathlib.Core.List.{[]};
+ghost use lib.ListN.{length};
+ghost use Rattle.settings.specs.Ranges.{mostSamples};
+ghost use Rattle.settings.specs.Refusal.{numberOf};
+ghost use Rattle.finder.specs.Find.{ampAt, over, firstOver, overIn, anyOver, nextTc, tcFrom, setFirst, setLast, integral, early, vmin, firstFall, n1, edgeTime, tcOnly, timeAt, pulseAt, pulsesFrom, noPulse, packed, findAll, ruleNumber};
+ghost use Rattle.finder.specs.Call.{findNumber, FindSays};
+ghost use Rattle.finder.specs.Asked.{IsOver, HasEdge};
+
+// Which rule of the high-resolution time gave it: 1, 2, 3 and 4 in the paper's order.
+pub enum Rule {
+    Early,
+    Late,
+    Flat,
+    Edge,
+}
+
+// A high-resolution time. VPEAK 0 marks a time that is only TC.
+pub struct Time {
+    pub coarse: usize,
+    pub fine: u32,
+    pub vmin: u32,
+    pub vpeak: u32,
+    pub rule: Rule,
+}
+
+// A pulse: its TC, the first and the last sample of its data set, the sum over the set before any cap, its time.
+pub struct Pulse {
+    pub tc: usize,
+    pub first: usize,
+    pub last: usize,
+    pub sum: u32,
+    pub time: Time,
+}
+
+// The first `count` are pulses, the others are all zeros.
+pub struct Pulses {
+    pub count: usize,
+    pub pulses: [Pulse; 3],
+}
+
+// The finder's answer: a refused call has no pulses.
+pub struct Answer {
+    pub refusal: Refusal,
+    pub found: Pulses,
+}
+
+// The paper's number of a rule.
+pub fn rule_number(rule: Rule) -> u32
+    ensures { λ r. ⌜ r ≡ ruleNumber rule ⌝ }
+{
+    match rule {
+        Rule::Early => 1,
+        Rule::Late => 2,
+        Rule::Flat => 3,
+        Rule::Edge => 4,
+    }
+}
+
+// The amplitude of sample k.
+fn amp_at(window: &[u16], k: usize) -> u32
+    requires { ⌜ (1 ≤ k) × (k ≤ length (now window)) ⌝ }
+    ensures { λ r. ⌜ (r ≡ ampAt (now (window .entry)) k) × (r ≤ 4095) ⌝ }
+{
+    settings::amplitude(window[k - 1])
+}
+
+// Sample k is over the threshold.
+fn is_over(window: &[u16], threshold: u32, k: usize) -> bool
+    requires { ⌜ (1 ≤ k) × (k ≤ length (now window)) ⌝ }
+    ensures { λ r. ⌜ r ≡ over (now (window .entry)) threshold k ⌝ }
+{
+    threshold < amp_at(window, k)
+}
+
+// The first of the first n samples that is over.
+fn first_over(window: &[u16], threshold: u32, n: usize) -> usize
+    requires { ⌜ n ≤ length (now window) ⌝ }
+    ensures { λ r. ⌜ r ≡ firstOver (now (window .entry)) threshold n ⌝ }
+{
+    let mut k = 0;
+    while k < n {
+        k += 1;
+        if is_over(window, threshold, k) {
+            return k;
+        }
+    }
+    0
+}
+
+// One of the first n samples is over.
+fn over_in(window: &[u16], threshold: u32, n: usize) -> bool
+    requires { ⌜ n ≤ length (now window) ⌝ }
+    ensures { λ r. ⌜ r ≡ overIn (now (window .entry)) threshold n ⌝ }
+{
+    0 < first_over(window, threshold, n)
+}
+
+// Any sample of the window is over.
+pub fn any_over(window: &[u16], threshold: u32) -> bool
+    ensures { λ r. ⌜ r ≡ anyOver (now (window .entry)) threshold ⌝ }
+{
+    over_in(window, threshold, window.len())
+}
+
+// The TC after s of a pulse that is not the first: over, and its neighbour is not. The neighbour's test is kept, so each sample is read once.
+fn next_tc(window: &[u16], threshold: u32, s: usize) -> usize
+    requires { ⌜ 1 ≤ s ⌝ }
+    ensures { λ r. ⌜ r ≡ nextTc (now (window .entry)) threshold s ⌝ }
+{
+    if window.len() <= s {
+        return 0;
+    }
+    let mut k = s;
+    let mut was_over = is_over(window, threshold, k);
+    while k < window.len() {
+        k += 1;
+        let now_over = is_over(window, threshold, k);
+        if now_over & !was_over {
+            return k;
+        }
+        was_over = now_over;
+    }
+    0
+}
+
+// The TC that the search from s finds; s is 0 for the first pulse.
+fn tc_from(window: &[u16], threshold: u32, s: usize) -> usize
+    ensures { λ r. ⌜ r ≡ tcFrom (now (window .entry)) threshold s ⌝ }
+{
+    if s == 0 {
+        first_over(window, threshold, window.len())
+    } else {
+        next_tc(window, threshold, s)
+    }
+}
+
+// The first sample of the data set.
+fn set_first(tc: usize, nsb: usize) -> usize
+    ensures { λ r. ⌜ r ≡ setFirst tc nsb ⌝ }
+{
+    if nsb < tc { tc - nsb } else { 1 }
+}
+
+// The last sample of the data set.
+fn set_last(tc: usize, nsa: usize, nw: usize) -> usize
+    requires { ⌜ (1 ≤ tc) × (tc ≤ mostSamples) × (nsa ≤ 511) ⌝ }
+    ensures { λ r. ⌜ r ≡ setLast tc nsa nw ⌝ }
+{
+    let end = tc + nsa - 1;
+    if end < nw { end } else { nw }
+}
+
+// The sum of the amplitudes from `first` to `last`.
+fn integral_of(window: &[u16], first: usize, last: usize) -> u32
+    requires { ⌜ (1 ≤ first) × (last ≤ length (now window)) × (length (now window) ≤ mostSamples) ⌝ }
+    ensures { λ r. ⌜ r ≡ integral (now (window .entry)) first last ⌝ }
+{
+    let mut sum = 0;
+    let mut k = first - 1;
+    while k < last {
+        k += 1;
+        sum += amp_at(window, k);
+    }
+    sum
+}
+
+// Fewer than four samples, or one of the first four is over.
+fn is_early(window: &[u16], threshold: u32) -> bool
+    ensures { λ r. ⌜ r ≡ early (now (window .entry)) threshold ⌝ }
+{
+    if window.len() < 4 {
+        true
+    } else {
+        over_in(window, threshold, 4)
+    }
+}
+
+// A quarter of the sum of the first four.
+fn vmin_of(window: &[u16]) -> u32
+    requires { ⌜ (4 ≤ length (now window)) × (length (now window) ≤ mostSamples) ⌝ }
+    ensures { λ r. ⌜ r ≡ vmin (now (window .entry)) ⌝ }
+{
+    integral_of(window, 1, 4) / 4
+}
+
+// The first sample after TC that is lower than its neighbour. The neighbour is kept, so each sample is read once.
+fn first_fall(window: &[u16], tc: usize) -> usize
+    requires { ⌜ (1 ≤ tc) × (tc ≤ length (now window)) ⌝ }
+    ensures { λ r. ⌜ r ≡ firstFall (now (window .entry)) tc ⌝ }
+{
+    let mut k = tc;
+    let mut before = amp_at(window, k);
+    while k < window.len() {
+        k += 1;
+        let here = amp_at(window, k);
+        if here < before {
+            return k;
+        }
+        before = here;
+    }
+    0
+}
+
+// N1: the last sample before the peak that is at most half way up.
+fn n1_of(window: &[u16], vmid: u32, peak: usize) -> usize
+    requires { ⌜ peak ≤ length (now window) ⌝ }
+    ensures { λ r. ⌜ r ≡ n1 (now (window .entry)) vmid peak ⌝ }
+{
+    let mut k = peak;
+    while 1 < k {
+        k -= 1;
+        if amp_at(window, k) <= vmid {
+            return k;
+        }
+    }
+    0
+}
+
+// Rule 4: the time at which the edge before the peak is half way up.
+fn edge_time(window: &[u16], low: u32, peak: usize) -> Time
+    requires { ⌜ HasEdge (now window) low peak ⌝ }
+    ensures { λ r. ⌜ r ≡ edgeTime (now (window .entry)) low peak ⌝ }
+{
+    let vpeak = amp_at(window, peak);
+    let vmid = (vpeak + low) / 2;
+    let n1 = n1_of(window, vmid, peak);
+    let from = amp_at(window, n1);
+    let to = amp_at(window, n1 + 1);
+    Time {
+        coarse: n1,
+        fine: 64 * (vmid - from) / (to - from),
+        vmin: low,
+        vpeak,
+        rule: Rule::Edge,
+    }
+}
+
+// Rules 1 to 3: the time is TC.
+fn tc_only(tc: usize, low: u32, rule: Rule) -> Time
+    ensures { λ r. ⌜ r ≡ tcOnly tc low rule ⌝ }
+{
+    Time {
+        coarse: tc,
+        fine: 0,
+        vmin: low,
+        vpeak: 0,
+        rule,
+    }
+}
+
+// The high-resolution time of the pulse at tc.
+fn time_at(window: &[u16], threshold: u32, tc: usize) -> Time
+    requires { ⌜ IsOver (now window) threshold tc ⌝ }
+    requires { ⌜ length (now window) ≤ mostSamples ⌝ }
+    ensures { λ r. ⌜ r ≡ timeAt (now (window .entry)) threshold tc ⌝ }
+{
+    if is_early(window, threshold) {
+        return tc_only(tc, 0, Rule::Early);
+    }
+    let low = vmin_of(window);
+    if window.len() - tc < 5 {
+        return tc_only(tc, low, Rule::Late);
+    }
+    let fall = first_fall(window, tc);
+    if fall == 0 {
+        return tc_only(tc, low, Rule::Flat);
+    }
+    edge_time(window, low, fall - 1)
+}
+
+// The pulse at tc.
+fn pulse_at(window: &[u16], threshold: u32, nsb: usize, nsa: usize, tc: usize) -> Pulse
+    requires { ⌜ IsOver (now window) threshold tc ⌝ }
+    requires { ⌜ (length (now window) ≤ mostSamples) × (nsa ≤ 511) ⌝ }
+    ensures { λ r. ⌜ r ≡ pulseAt (now (window .entry)) threshold nsb nsa tc ⌝ }
+{
+    let first = set_first(tc, nsb);
+    let last = set_last(tc, nsa, window.len());
+    let sum = integral_of(window, first, last);
+    let time = time_at(window, threshold, tc);
+    Pulse {
+        tc,
+        first,
+        last,
+        sum,
+        time,
+    }
+}
+
+// What stands where there is no pulse.
+fn no_pulse() -> Pulse
+    ensures { λ r. ⌜ r ≡ noPulse ⌝ }
+{
+    let time = tc_only(0, 0, Rule::Early);
+    Pulse {
+        tc: 0,
+        first: 0,
+        last: 0,
+        sum: 0,
+        time,
+    }
+}
+
+fn no_pulses() -> Pulses
+    ensures { λ r. ⌜ r ≡ packed [] ⌝ }
+{
+    let none = no_pulse();
+    Pulses {
+        count: 0,
+        pulses: [none; 3],
+    }
+}
+
+// Every pulse of the window, up to the limit. No search begins once the limit is reached.
+fn all_pulses(window: &[u16], threshold: u32, nsb: usize, nsa: usize, limit: usize) -> Pulses
+    requires { ⌜ (length (now window) ≤ mostSamples) × (1 ≤ nsa) × (nsa ≤ 511) × (limit ≤ 3) ⌝ }
+    ensures { λ r. ⌜ r ≡ packed (pulsesFrom (now (window .entry)) threshold nsb nsa limit 0) ⌝ }
+{
+    let none = no_pulse();
+    let mut pulses = [none; 3];
+    let mut count = 0;
+    let mut s = 0;
+    while count < limit {
+        let tc = tc_from(window, threshold, s);
+        if tc == 0 {
+            return Pulses { count, pulses };
+        }
+        pulses[count] = pulse_at(window, threshold, nsb, nsa, tc);
+        count += 1;
+        s = tc + nsa;
+    }
+    Pulses { count, pulses }
+}
+
+// The pulses alone, for a caller that made the refusals itself. Numbers that no settings in range have give none.
+pub fn pulses_of(window: &[u16], threshold: u32, nsb: usize, nsa: usize, limit: usize) -> Pulses
+    ensures { λ r. ⌜ r ≡ findAll (now (window .entry)) threshold nsb nsa limit ⌝ }
+{
+    if (window.len() <= settings::MOST_SAMPLES) & (1 <= nsa) & (nsa <= 511) & (limit <= 3) {
+        all_pulses(window, threshold, nsb, nsa, limit)
+    } else {
+        no_pulses()
+    }
+}
+
+// Why the finder refuses, in the paper's order.
+fn refusal_of(settings: Settings, channel: usize, window: &[u16]) -> Refusal
+    ensures { λ r. ⌜ numberOf r ≡ findNumber settings channel (now (window .entry)) ⌝ }
+{
+    if !settings::in_range(settings) {
+        return Refusal::Setting;
+    }
+    if 15 < channel {
+        return Refusal::Channel;
+    }
+    if window.len() != settings.nw {
+        return Refusal::Length;
+    }
+    if !settings::samples_ok(window) {
+        return Refusal::Sample;
+    }
+    Refusal::None
+}
+
+// The pulses of one channel's window, or why there are none.
+pub fn find(settings: Settings, channel: usize, window: &[u16]) -> Answer
+    ensures { λ r. ⌜ FindSays settings channel (now (window .entry)) r ⌝ }
+{
+    let refusal = refusal_of(settings, channel, window);
+    if !settings::accepted(refusal) {
+        let found = no_pulses();
+        return Answer { refusal, found };
+    }
+    let thresholds = settings.thresholds;
+    let threshold = thresholds[channel];
+    let found = all_pulses(
+        window,
+        threshold,
+        settings.nsb,
+        settings.nsa,
+        settings.limit,
+    );
+    Answer { refusal, found }
+}
