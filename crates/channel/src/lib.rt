@@ -1,11 +1,23 @@
 // The words of one channel, put into a lent buffer.
+mod count;
+mod measure;
+mod samples;
+
+use finder::Pulse;
+use finder::Pulses;
+use items::Item;
+use settings::Settings;
 ghost use mathlib.Core.Path.{_≡_};
+ghost use mathlib.Core.Bool.{true, cond};
 ghost use mathlib.Core.List.{[], _∷_};
-ghost use Prim.Native.Nat.{_<_};
+ghost use Prim.Native.Nat.{_+_, _<_, _≤_};
 ghost use lib.ListN.{length};
 ghost use Rattle.ground.specs.Splice.{Written};
-ghost use Rattle.items.specs.Items.{wordOf};
-use items::Item;
+ghost use Rattle.settings.specs.Ranges.{mostSamples, settingsOk};
+ghost use Rattle.finder.specs.RangeLaws.{PulseFits};
+ghost use Rattle.items.specs.Items.{wordOf, wordsOf};
+ghost use Rattle.channel.specs.Channel.{windowItems, rawItems, partsOf, itemIf, pulseItems, pulsesItems, commonOf, channelItems, channelWords};
+ghost use Rattle.channel.specs.Inner.{listed, InWindow, channelLength};
 
 // What a mode writes: the window, and of each pulse its samples, integral, time (high-resolution or TC) and pedestal.
 pub struct Parts {
@@ -17,6 +29,34 @@ pub struct Parts {
     pub pedestal: bool,
 }
 
+fn writing(window: bool, raw: bool, integral: bool, time: bool, high: bool, pedestal: bool) -> Parts
+    ensures { λ r. ⌜ r ≡ record { window = window; raw = raw; integral = integral; time = time; high = high; pedestal = pedestal } ⌝ }
+{
+    Parts {
+        window,
+        raw,
+        integral,
+        time,
+        high,
+        pedestal,
+    }
+}
+
+// The mode's row.
+fn parts_of(mode: u32) -> Parts
+    ensures { λ r. ⌜ r ≡ partsOf mode ⌝ }
+{
+    match mode {
+        1 => writing(true, false, false, false, false, false),
+        2 => writing(false, true, false, false, false, false),
+        3 => writing(false, false, true, true, false, false),
+        4 => writing(false, false, false, true, true, true),
+        7 => writing(false, false, true, true, true, true),
+        8 => writing(true, false, false, true, true, true),
+        _ => writing(false, false, false, false, false, false),
+    }
+}
+
 // Every writer has this contract: its words from place `at`, all else as it was; it answers the next place.
 pub fn put_item(words: &mut [u32], at: usize, item: Item) -> usize
     requires { ⌜ at < length (now words) ⌝ }
@@ -24,4 +64,134 @@ pub fn put_item(words: &mut [u32], at: usize, item: Item) -> usize
 {
     words[at] = item.build();
     at + 1
+}
+
+// The record where it is wanted, and nothing where it is not.
+pub fn put_if(words: &mut [u32], at: usize, on: bool, item: Item) -> usize
+    requires { ⌜ at + length (itemIf on item) ≤ length (now words) ⌝ }
+    ensures { λ r. ⌜ Written (now (words .entry)) at (wordsOf (itemIf on item)) r (now (words .exit)) ⌝ }
+{
+    if on { put_item(words, at, item) } else { at }
+}
+
+// A pulse's data set where the mode writes it.
+fn put_raw_if(
+    words: &mut [u32],
+    at: usize,
+    on: bool,
+    channel: u32,
+    row: &[u16],
+    i: u32,
+    pulse: Pulse,
+) -> usize
+    requires { ⌜ PulseFits (length (now row)) pulse × (length (now row) ≤ mostSamples) ⌝ }
+    requires { ⌜ at + length (cond on (rawItems channel (now row) i pulse) []) ≤ length (now words) ⌝ }
+    ensures { λ r. ⌜ Written (now (words .entry)) at (wordsOf (cond on (rawItems channel (now (row .entry)) i pulse) [])) r (now (words .exit)) ⌝ }
+{
+    if on {
+        samples::put_raw(words, at, channel, row, i, pulse)
+    } else {
+        at
+    }
+}
+
+// What the mode writes of one pulse.
+fn put_pulse(
+    words: &mut [u32],
+    at: usize,
+    parts: Parts,
+    channel: u32,
+    row: &[u16],
+    i: u32,
+    pulse: Pulse,
+) -> usize
+    requires { ⌜ PulseFits (length (now row)) pulse × (length (now row) ≤ mostSamples) ⌝ }
+    requires { ⌜ at + length (pulseItems parts channel (now row) i pulse) ≤ length (now words) ⌝ }
+    ensures { λ r. ⌜ Written (now (words .entry)) at (wordsOf (pulseItems parts channel (now (row .entry)) i pulse)) r (now (words .exit)) ⌝ }
+{
+    let samples = put_raw_if(words, at, parts.raw, channel, row, i, pulse);
+    let integral = put_if(
+        words,
+        samples,
+        parts.integral,
+        measure::integral_of(channel, i, pulse),
+    );
+    let time = put_if(
+        words,
+        integral,
+        parts.time,
+        measure::time_of(parts.high, channel, i, pulse),
+    );
+    put_if(
+        words,
+        time,
+        parts.pedestal,
+        measure::pedestal_of(channel, i, pulse),
+    )
+}
+
+// The pulses in order.
+fn put_pulses(
+    words: &mut [u32],
+    at: usize,
+    parts: Parts,
+    channel: u32,
+    row: &[u16],
+    found: Pulses,
+) -> usize
+    requires { ⌜ InWindow (length (now row)) found × (length (now row) ≤ mostSamples) ⌝ }
+    requires { ⌜ at + length (pulsesItems parts channel (now row) 0 (listed found)) ≤ length (now words) ⌝ }
+    ensures { λ r. ⌜ Written (now (words .entry)) at (wordsOf (pulsesItems parts channel (now (row .entry)) 0 (listed found))) r (now (words .exit)) ⌝ }
+{
+    let mut next = at;
+    let mut i = 0;
+    while i < found.count {
+        let pulse = found.pulses[i];
+        next = put_pulse(words, next, parts, channel, row, i as u32, pulse);
+        i += 1;
+    }
+    next
+}
+
+// The channel's window where it is wanted.
+fn put_window_if(words: &mut [u32], at: usize, on: bool, channel: u32, row: &[u16]) -> usize
+    requires { ⌜ length (now row) ≤ mostSamples ⌝ }
+    requires { ⌜ at + length (cond on (windowItems channel (now row)) []) ≤ length (now words) ⌝ }
+    ensures { λ r. ⌜ Written (now (words .entry)) at (wordsOf (cond on (windowItems channel (now (row .entry))) [])) r (now (words .exit)) ⌝ }
+{
+    if on {
+        samples::put_window(words, at, channel, row)
+    } else {
+        at
+    }
+}
+
+// The words of a channel: of the common settings, its own threshold, its number and its window.
+pub fn put_channel(
+    words: &mut [u32],
+    at: usize,
+    settings: Settings,
+    threshold: u32,
+    channel: u32,
+    row: &[u16],
+) -> usize
+    requires { ⌜ (settingsOk settings ≡ true) × (length (now row) ≤ mostSamples) ⌝ }
+    requires { ⌜ at + length (channelItems (commonOf settings) threshold channel (now row)) ≤ length (now words) ⌝ }
+    ensures { λ r. ⌜ Written (now (words .entry)) at (channelWords (commonOf settings) threshold channel (now (row .entry))) r (now (words .exit)) ⌝ }
+{
+    let parts = parts_of(settings.mode);
+    let found = finder::pulses_of(row, threshold, settings.nsb, settings.nsa, settings.limit);
+    let window = put_window_if(words, at, parts.window & (0 < found.count), channel, row);
+    put_pulses(words, window, parts, channel, row, found)
+}
+
+// How many words that is.
+pub fn channel_length(settings: Settings, threshold: u32, row: &[u16]) -> usize
+    requires { ⌜ (settingsOk settings ≡ true) × (length (now row) ≤ mostSamples) ⌝ }
+    ensures { λ r. ⌜ r ≡ channelLength (commonOf settings) threshold (now (row .entry)) ⌝ }
+{
+    let parts = parts_of(settings.mode);
+    let found = finder::pulses_of(row, threshold, settings.nsb, settings.nsa, settings.limit);
+    count::window_length(parts.window & (0 < found.count), row.len())
+        + count::pulses_length(parts, found, row.len())
 }

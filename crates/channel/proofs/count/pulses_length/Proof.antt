@@ -1,0 +1,77 @@
+-- `channel::count::pulses_length` meets its contract: what is counted and what is left are the whole.
+use Prim.Native.Nat.{_+_, _*_, _-_, _≤_}
+use mathlib.Core.Path.{_≡_, refl}
+use native.Mathlib.Omega.{arith}
+use native.Mathlib.Nat.{zero-add}
+use lib.ListN.{drop}
+use Rattle.channel.specs.Inner.{listed, pulsesLength}
+use Rattle.channel.specs.InnerLaws.{place-set, count-turn, count-end}
+use Rattle.channel.proofs.count.pulses_length.Statement.{statement}
+use Rattle.channel.proofs.count.pulses_length.Tie as tie
+use Rattle.channel.proofs.count.pulses_length.Reads as reads
+use Rattle.channel.proofs.count.pulses_length.Lts as lts
+use Rattle.channel.proofs.count.pulse_length.Reads as pulse-length-reads
+
+abbrev Inv-loop : tie.InvT-loop
+Inv-loop parts samples found n₀ i₀ n i = (i ≤ found .count) × (n + pulsesLength parts (drop i (listed found)) ≡ pulsesLength parts (listed found)) × (n ≤ 254 * i)
+
+abbrev μ-loop : tie.MeasureT-loop
+μ-loop parts samples found n₀ i₀ n i = found .count - i
+
+-- src/count.rt:43:5
+loop-holds : tie.Need-loop-holds Inv-loop μ-loop
+loop-holds c = (omega arith, zero-add _, omega arith)
+
+-- src/count.rt:44:21
+mul-pulse : tie.Need-mul-pulse Inv-loop μ-loop
+mul-pulse c = omega arith
+
+-- src/count.rt:44:21
+element-copy-out-pulse : tie.Need-element-copy-out-pulse Inv-loop μ-loop
+element-copy-out-pulse c = omega arith
+
+-- src/count.rt:45:14
+pulse-length-requires : tie.Need-pulse-length-requires Inv-loop μ-loop
+pulse-length-requires c κs =
+    let pre = c .before .before .before .pre in
+    place-set _ _ _ _ (pre .0) (pre .1) (omega arith)
+
+-- src/count.rt:45:9
+add-n : tie.Need-add-n Inv-loop μ-loop
+add-n c = omega arith
+
+-- src/count.rt:46:9
+add-i : tie.Need-add-i Inv-loop μ-loop
+add-i c = omega arith
+
+-- src/count.rt:43:5
+loop-less : tie.Need-loop-less Inv-loop μ-loop
+loop-less c = omega arith
+
+-- src/count.rt:43:5
+loop-again : tie.Need-loop-again Inv-loop μ-loop
+loop-again c =
+    let h = c .before .before .before in
+    (omega arith, count-turn _ _ (h .before .pre .0 .stored) (h .loop .i) (h .loop .n) _ _ _ (c .pulse-length .ensures .0) (c .before .before .loop-test .taken) (h .loop .inv .1), omega arith)
+
+-- src/count.rt:37:1
+returns : tie.Need-returns Inv-loop μ-loop
+returns c =
+    let h = c .before in
+    (count-end _ _ (h .before .pre .0 .stored) (h .loop .i) _ _ (c .loop-test .left) (h .loop .inv .1), omega arith)
+
+pub pulses-length-spec : {M : Type 1} → statement M
+pulses-length-spec =
+    tie.close
+    (tie.spec
+    Inv-loop
+    μ-loop
+    loop-holds
+    mul-pulse
+    element-copy-out-pulse
+    pulse-length-requires
+    add-n
+    add-i
+    loop-less
+    loop-again
+    returns)

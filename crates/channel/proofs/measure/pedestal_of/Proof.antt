@@ -1,0 +1,20 @@
+-- `channel::measure::pedestal_of` meets its contract, field by field.
+use Rattle.channel.specs.Channel.{pedestalItem}
+use borrow.Author.Needs.{needs}
+use Rattle.channel.proofs.measure.pedestal_of.Statement.{statement}
+use Rattle.channel.proofs.measure.pedestal_of.Tie as tie
+use Rattle.channel.proofs.measure.pedestal_of.Reads as reads
+use Rattle.channel.proofs.measure.pedestal_of.Lts as lts
+use Rattle.channel.proofs.measure.at_most.Reads as at-most-reads
+
+-- src/measure.rt:67:15
+at-most-requires : tie.Need-at-most-requires
+at-most-requires c κs = search needs
+
+-- src/measure.rt:60:1
+returns : tie.Need-returns
+unfolding pedestalItem
+returns c = cc
+
+pub pedestal-of-spec : {M : Type 1} → statement M
+pedestal-of-spec = tie.close (tie.spec at-most-requires returns)

@@ -1,0 +1,17 @@
+-- `channel::measure::quality` meets its contract.
+use borrow.Author.Tests.{lt-ltb, le-ltb}
+use Rattle.channel.proofs.measure.quality.Statement.{statement}
+use Rattle.channel.proofs.measure.quality.Tie as tie
+use Rattle.channel.proofs.measure.quality.Reads as reads
+use Rattle.channel.proofs.measure.quality.Lts as lts
+
+-- src/measure.rt:21:1
+returns : tie.Need-returns
+returns c = rw (lt-ltb _ _ (c .if1 .taken))
+
+-- src/measure.rt:21:1
+returns-2 : tie.Need-returns-2
+returns-2 c = rw (le-ltb _ _ (c .if1 .left))
+
+pub quality-spec : {M : Type 1} → statement M
+quality-spec = tie.close (tie.spec returns returns-2)

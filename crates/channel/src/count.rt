@@ -1,0 +1,49 @@
+// How many words a channel takes, without writing them.
+use crate::Parts;
+use finder::Pulse;
+use finder::Pulses;
+ghost use mathlib.Core.Path.{_≡_};
+ghost use mathlib.Core.Bool.{cond};
+ghost use Prim.Native.Nat.{_+_, _-_, _≤_};
+ghost use lib.ListN.{length};
+ghost use Rattle.settings.specs.Ranges.{mostSamples};
+ghost use Rattle.channel.specs.Inner.{listed, InWindow, pairsFor, oneIf, pulseLength, pulsesLength};
+
+fn one_if(on: bool) -> usize
+    ensures { λ r. ⌜ (r ≡ oneIf on) × (r ≤ 1) ⌝ }
+{
+    if on { 1 } else { 0 }
+}
+
+// A header and its pairs, where they are wanted.
+pub fn window_length(on: bool, samples: usize) -> usize
+    requires { ⌜ samples ≤ mostSamples ⌝ }
+    ensures { λ r. ⌜ (r ≡ cond on (1 + pairsFor samples) 0) × (r ≤ 251) ⌝ }
+{
+    if on { 1 + (samples + 1) / 2 } else { 0 }
+}
+
+fn pulse_length(parts: Parts, pulse: Pulse) -> usize
+    requires { ⌜ (pulse .last ≤ mostSamples) × (1 ≤ pulse .first) × (pulse .first ≤ pulse .last) ⌝ }
+    ensures { λ r. ⌜ (r ≡ pulseLength parts pulse) × (r ≤ 254) ⌝ }
+{
+    let samples = window_length(parts.raw, pulse.last + 1 - pulse.first);
+    let integral = one_if(parts.integral);
+    let time = one_if(parts.time);
+    let pedestal = one_if(parts.pedestal);
+    samples + (integral + (time + pedestal))
+}
+
+pub fn pulses_length(parts: Parts, found: Pulses, samples: usize) -> usize
+    requires { ⌜ InWindow samples found × (samples ≤ mostSamples) ⌝ }
+    ensures { λ r. ⌜ (r ≡ pulsesLength parts (listed found)) × (r ≤ 762) ⌝ }
+{
+    let mut n = 0;
+    let mut i = 0;
+    while i < found.count {
+        let pulse = found.pulses[i];
+        n += pulse_length(parts, pulse);
+        i += 1;
+    }
+    n
+}

@@ -1,0 +1,70 @@
+// The records of what is measured of a pulse, with the caps that only the words have.
+use finder::Pulse;
+use items::Item;
+use measures::integral::PulseIntegral;
+use measures::pedestal::PulsePedestal;
+use measures::time::PulseTime;
+ghost use mathlib.Core.Path.{_≡_};
+ghost use mathlib.Core.Bool.{cond};
+ghost use Prim.Native.Nat.{_≤_, min};
+ghost use lib.Dec.{ltb};
+ghost use Rattle.settings.specs.Ranges.{mostSamples};
+ghost use Rattle.channel.specs.Channel.{integralItem, timeItem, pedestalItem};
+
+fn at_most(x: u32, most: u32) -> u32
+    ensures { λ r. ⌜ r ≡ min x most ⌝ }
+{
+    if x < most { x } else { most }
+}
+
+// Quality 1 marks a sum that was cut.
+fn quality(sum: u32) -> u32
+    ensures { λ r. ⌜ r ≡ cond (ltb 524287 sum) 1 0 ⌝ }
+{
+    if PulseIntegral::SUM_MAX < sum { 1 } else { 0 }
+}
+
+fn either(first: bool, x: u32, y: u32) -> u32
+    ensures { λ r. ⌜ r ≡ cond first x y ⌝ }
+{
+    if first { x } else { y }
+}
+
+pub fn integral_of(channel: u32, i: u32, pulse: Pulse) -> Item
+    ensures { λ r. ⌜ r ≡ integralItem channel i pulse ⌝ }
+{
+    Item::Integral(PulseIntegral {
+        channel,
+        pulse: i,
+        quality: quality(pulse.sum),
+        sum: at_most(pulse.sum, PulseIntegral::SUM_MAX),
+    })
+}
+
+// The high-resolution time, or TC.
+pub fn time_of(high: bool, channel: u32, i: u32, pulse: Pulse) -> Item
+    requires { ⌜ (pulse .tc ≤ mostSamples) × (pulse .time .coarse ≤ mostSamples) ⌝ }
+    ensures { λ r. ⌜ r ≡ timeItem high channel i pulse ⌝ }
+{
+    let time = pulse.time;
+    Item::Time(PulseTime {
+        channel,
+        pulse: i,
+        quality: 0,
+        coarse: either(high, time.coarse as u32, pulse.tc as u32),
+        fine: either(high, time.fine, 0),
+    })
+}
+
+// VMIN is cut in the word alone.
+pub fn pedestal_of(channel: u32, i: u32, pulse: Pulse) -> Item
+    ensures { λ r. ⌜ r ≡ pedestalItem channel i pulse ⌝ }
+{
+    let time = pulse.time;
+    Item::Pedestal(PulsePedestal {
+        channel,
+        pulse: i,
+        vmin: at_most(time.vmin, PulsePedestal::VMIN_MAX),
+        vpeak: time.vpeak,
+    })
+}
