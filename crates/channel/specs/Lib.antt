@@ -2,3 +2,4 @@ pub mod Channel
 pub mod Inner
 pub mod InnerLaws
 pub mod PairsLaws
+pub mod PulsesLaws

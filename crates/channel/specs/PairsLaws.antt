@@ -1,14 +1,15 @@
--- Samples taken two by two. Assumes nothing.
-use Prim.Native.Nat.{ℕ, suc, _+_, _≤_, _<_}
+-- Samples taken two by two, and the part of a window that is a pulse's data set. Assumes nothing.
+use Prim.Native.Nat.{ℕ, suc, _+_, _-_, _≤_, _<_}
 use mathlib.Core.Path.{_≡_, refl, sym, ap, _∙_}
 use mathlib.Core.List.{List, [], _∷_}
 use native.Mathlib.Omega.{arith}
 use native.Mathlib.Numerals.{add-one}
-use lib.ListN.{length, drop, getD, drop-of-length-le}
+use lib.ListN.{length, take, drop, getD, drop-of-length-le}
 use lib.Seq.{drop-cons}
 use Rattle.items.specs.declared.Item.{Item}
 use Rattle.items.specs.declared.Item.the-variants as I
-use Rattle.channel.specs.Channel.{pairItems}
+use Rattle.finder.specs.declared.Pulse.{Pulse}
+use Rattle.channel.specs.Channel.{pairItems, setOf}
 
 -- two samples from i on
 pub pairs-two : (l : List ℕ) (i : ℕ) → i + 1 < length l
@@ -29,3 +30,10 @@ pairs-one l i h k =
 -- none is left
 pub pairs-none : (l : List ℕ) (i : ℕ) → length l ≤ i → pairItems (drop i l) ≡ []
 pairs-none l i h = rw (drop-of-length-le l h)
+
+-- the part of the window from the set's first sample to its last
+pub part-set : (w : List ℕ) (p : Pulse) → 1 ≤ p .first → take (p .last - (p .first - 1)) (drop (p .first - 1) w) ≡ setOf w p
+unfolding setOf
+part-set w p h =
+    let e : p .last - (p .first - 1) ≡ p .last + 1 - p .first = omega arith in
+    rw e

@@ -20,6 +20,10 @@ words-append (x ∷ xs) ys = ap (λ ws. wordOf x ∷ ws) (words-append xs ys)
 
 -- ---- one writer after another
 
+-- the first has room
+pub first-room : (k n : ℕ) (xs ys : List Item) → k + length (xs ++ ys) ≤ n → k + length xs ≤ n
+first-room k n xs ys h = omega (arith, length-append xs ys)
+
 -- what the first leaves has room for the second
 pub then-room : (b : List ℕ) (at : ℕ) (xs ys : List Item) (k : ℕ) (b₁ : List ℕ) → at + length (xs ++ ys) ≤ length b
     → Written b at (wordsOf xs) k b₁ → k + length ys ≤ length b₁

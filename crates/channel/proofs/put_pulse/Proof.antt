@@ -1,60 +1,99 @@
+-- `channel::put_pulse` meets its contract: its records one after the other, each where the mode writes it.
+use mathlib.Core.List.{List, [], _++_}
+use mathlib.Core.Bool.{Bool, cond}
+use Prim.Native.Nat.{ℕ, _+_, _≤_}
+use native.Mathlib.Omega.{arith}
 use borrow.Author.Needs.{needs}
+use lib.ListN.{length}
+use Rattle.ground.specs.Splice.{Written}
+use Rattle.items.specs.Items.{wordsOf}
+use Rattle.items.specs.declared.Item.{Item}
+use Rattle.items.specs.ItemsLaws.{first-room, then-room, then-written}
+use Rattle.channel.specs.Channel.{rawItems, integralItem, timeItem, pedestalItem, itemIf, pulseItems}
 use Rattle.channel.proofs.put_pulse.Statement.{statement}
 use Rattle.channel.proofs.put_pulse.Tie as tie
-use Rattle.channel.proofs.put_pulse.Reads as reads
-use Rattle.channel.proofs.put_pulse.Lts as lts
-use Rattle.channel.proofs.measure.integral_of.Reads as integral-of-reads
-use Rattle.channel.proofs.measure.pedestal_of.Reads as pedestal-of-reads
-use Rattle.channel.proofs.measure.time_of.Reads as time-of-reads
-use Rattle.channel.proofs.put_if.Reads as put-if-reads
-use Rattle.channel.proofs.put_raw_if.Reads as put-raw-if-reads
 
--- src/lib.rt:112:9
+-- the four parts, as lists of records
+module _ (c : tie.Start) where
+  raw : List Item
+  raw = cond (c .args .parts .raw) (rawItems (c .args .channel) (c .args .row .now) (c .args .i) (c .args .pulse)) []
+
+  integral : List Item
+  integral = itemIf (c .args .parts .integral) (integralItem (c .args .channel) (c .args .i) (c .args .pulse))
+
+  time : List Item
+  time = itemIf (c .args .parts .time) (timeItem (c .args .parts .high) (c .args .channel) (c .args .i) (c .args .pulse))
+
+  pedestal : List Item
+  pedestal = itemIf (c .args .parts .pedestal) (pedestalItem (c .args .channel) (c .args .i) (c .args .pulse))
+
+  whole : c .args .at + length (raw ++ (integral ++ (time ++ pedestal))) ≤ length (c .args .words .now)
+  unfolding pulseItems raw integral time pedestal
+  whole = c .pre .1
+
 put-raw-if-requires : tie.Need-put-raw-if-requires
-put-raw-if-requires c κs = ?
+unfolding raw
+put-raw-if-requires c κs =
+    let s = c .before .before .before in
+    (s .pre .0, first-room _ _ (raw s) _ (whole s))
 
--- src/lib.rt:117:9
-integral-of-requires : tie.Need-integral-of-requires
-integral-of-requires c κs = search needs
+-- each part is written, and what is left has room behind it
+behind-raw : (c : tie.After-integral-of)
+    → c .before .before .before .before .put-raw-if .result + length (integral (c .before .before .before .before .before .before .before .before) ++ (time (c .before .before .before .before .before .before .before .before) ++ pedestal (c .before .before .before .before .before .before .before .before))) ≤ length (c .before .before .before .before .put-raw-if .last .0)
+unfolding raw
+behind-raw c = then-room _ _ (raw (c .before .before .before .before .before .before .before .before)) (integral (c .before .before .before .before .before .before .before .before) ++ (time (c .before .before .before .before .before .before .before .before) ++ pedestal (c .before .before .before .before .before .before .before .before))) _ _ (whole (c .before .before .before .before .before .before .before .before)) (c .before .before .before .before .put-raw-if .ensures)
 
--- src/lib.rt:113:9
+wrote-integral : (c : tie.After-put-if)
+    → Written (c .before .before .before .before .before .put-raw-if .last .0) (c .before .before .before .before .before .put-raw-if .result) (wordsOf (integral (c .before .before .before .before .before .before .before .before .before))) (c .put-if .result) (c .put-if .last .0)
+unfolding integral
+wrote-integral c = rw (c .before .integral-of .ensures) at (c .put-if .ensures)
+
+behind-integral : (c : tie.After-time-of) → c .before .before .before .before .put-if .result + length (time (c .before .before .before .before .before .before .before .before .before .before .before .before .before) ++ pedestal (c .before .before .before .before .before .before .before .before .before .before .before .before .before)) ≤ length (c .before .before .before .before .put-if .last .0)
+behind-integral c = then-room _ _ (integral (c .before .before .before .before .before .before .before .before .before .before .before .before .before)) (time (c .before .before .before .before .before .before .before .before .before .before .before .before .before) ++ pedestal (c .before .before .before .before .before .before .before .before .before .before .before .before .before)) _ _ (behind-raw (c .before .before .before .before .before)) (wrote-integral (c .before .before .before .before))
+
+wrote-time : (c : tie.After-put-if2)
+    → Written (c .before .before .before .before .before .put-if .last .0) (c .before .before .before .before .before .put-if .result) (wordsOf (time (c .before .before .before .before .before .before .before .before .before .before .before .before .before .before))) (c .put-if2 .result) (c .put-if2 .last .0)
+unfolding time
+wrote-time c = rw (c .before .time-of .ensures) at (c .put-if2 .ensures)
+
+behind-time : (c : tie.After-pedestal-of) → c .before .before .before .before .put-if2 .result + length (pedestal (c .before .before .before .before .before .before .before .before .before .before .before .before .before .before .before .before .before .before)) ≤ length (c .before .before .before .before .put-if2 .last .0)
+behind-time c = then-room _ _ (time (c .before .before .before .before .before .before .before .before .before .before .before .before .before .before .before .before .before .before)) (pedestal (c .before .before .before .before .before .before .before .before .before .before .before .before .before .before .before .before .before .before)) _ _ (behind-integral (c .before .before .before .before .before)) (wrote-time (c .before .before .before .before))
+
+wrote-pedestal : (c : tie.After-put-if3)
+    → Written (c .before .before .before .before .before .put-if2 .last .0) (c .before .before .before .before .before .put-if2 .result) (wordsOf (pedestal (c .before .before .before .before .before .before .before .before .before .before .before .before .before .before .before .before .before .before .before))) (c .put-if3 .result) (c .put-if3 .last .0)
+unfolding pedestal
+wrote-pedestal c = rw (c .before .pedestal-of .ensures) at (c .put-if3 .ensures)
+
 put-if-requires : tie.Need-put-if-requires
-put-if-requires c κs = ?
+unfolding integral
+put-if-requires c κs = rw (c .integral-of .ensures) (first-room _ _ (integral (c .before .before .before .before .before .before .before .before)) _ (behind-raw c))
 
--- src/lib.rt:123:9
-time-of-requires : tie.Need-time-of-requires
-time-of-requires c κs = search needs
-
--- src/lib.rt:119:9
 put-if-requires-2 : tie.Need-put-if-requires-2
-put-if-requires-2 c κs = ?
+unfolding time
+put-if-requires-2 c κs = rw (c .time-of .ensures) (first-room _ _ (time (c .before .before .before .before .before .before .before .before .before .before .before .before .before)) _ (behind-integral c))
 
--- src/lib.rt:129:9
-pedestal-of-requires : tie.Need-pedestal-of-requires
-pedestal-of-requires c κs = search needs
-
--- src/lib.rt:125:5
 put-if-requires-3 : tie.Need-put-if-requires-3
-put-if-requires-3 c κs = ?
+unfolding pedestal
+put-if-requires-3 c κs = rw (c .pedestal-of .ensures) (behind-time c)
 
--- src/lib.rt:99:1
-same-length : tie.Need-same-length
-same-length c = search needs
-
--- src/lib.rt:99:1
 returns : tie.Need-returns
-returns c = ?
+unfolding pulseItems raw integral time pedestal
+returns c =
+    let s = c .before .before .before .before .before .before .before .before .before .before .before .before .before .before .before .before .before .before .before .before .before in
+    let w3 = then-written _ _ (time s) _ _ (pedestal s) _ _ (omega (arith, behind-integral (c .before .before .before .before .before .before .before .before))) (wrote-time (c .before .before .before .before .before .before .before)) (wrote-pedestal (c .before .before)) in
+    let w2 = then-written _ _ (integral s) _ _ (time s ++ pedestal s) _ _ (omega (arith, behind-raw (c .before .before .before .before .before .before .before .before .before .before .before .before .before))) (wrote-integral (c .before .before .before .before .before .before .before .before .before .before .before .before)) w3 in
+    then-written _ _ (raw s) _ _ (integral s ++ (time s ++ pedestal s)) _ _ (omega (arith, whole s)) (c .before .before .before .before .before .before .before .before .before .before .before .before .before .before .before .before .before .put-raw-if .ensures) w2
 
 pub put-pulse-spec : {M : Type 1} → statement M
 put-pulse-spec =
     tie.close
     (tie.spec
     put-raw-if-requires
-    integral-of-requires
+    (λ c κs. tt)
     put-if-requires
-    time-of-requires
+    (λ c κs. search needs)
     put-if-requires-2
-    pedestal-of-requires
+    (λ c κs. tt)
     put-if-requires-3
-    same-length
+    (λ c. search needs)
     returns)

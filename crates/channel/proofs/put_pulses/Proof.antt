@@ -1,54 +1,50 @@
+-- `channel::put_pulses` meets its contract: in a turn what is left begins with the pulse in the i-th place.
+use Prim.Native.Nat.{_-_, _≤_}
+use mathlib.Core.Path.{_∙_}
+use native.Mathlib.Omega.{arith}
+use borrow.Author.Needs.{needs}
+use lib.ListN.{drop}
+use Rattle.ground.specs.WritingLaws.{Left, left-all}
+use Rattle.items.specs.Items.{wordsOf}
+use Rattle.channel.specs.Channel.{pulsesItems}
+use Rattle.channel.specs.Inner.{listed}
+use Rattle.channel.specs.InnerLaws.{place-fits}
+use Rattle.channel.specs.PulsesLaws.{pulse-room, pulse-less, pulse-none}
 use Rattle.channel.proofs.put_pulses.Statement.{statement}
 use Rattle.channel.proofs.put_pulses.Tie as tie
-use Rattle.channel.proofs.put_pulses.Reads as reads
-use Rattle.channel.proofs.put_pulses.Lts as lts
-use Rattle.channel.proofs.put_pulse.Reads as put-pulse-reads
 
 abbrev Inv-loop : tie.InvT-loop
-Inv-loop words₀ at parts channel row found next₀ i₀ words next i = ?
+Inv-loop words₀ at parts channel row found next₀ i₀ words next i =
+    (i ≤ found .count) × Left words₀ at (wordsOf (pulsesItems parts channel row 0 (listed found))) words next (wordsOf (pulsesItems parts channel row i (drop i (listed found))))
 
 abbrev μ-loop : tie.MeasureT-loop
-μ-loop words₀ at parts channel row found next₀ i₀ words next i = ?
+μ-loop words₀ at parts channel row found next₀ i₀ words next i = found .count - i
 
--- src/lib.rt:148:5
 loop-holds : tie.Need-loop-holds Inv-loop μ-loop
-loop-holds c = ?
+loop-holds c = (omega arith, left-all _ _ _)
 
--- src/lib.rt:149:21
-mul-pulse : tie.Need-mul-pulse Inv-loop μ-loop
-mul-pulse c = ?
-
--- src/lib.rt:149:21
-element-copy-out-pulse : tie.Need-element-copy-out-pulse Inv-loop μ-loop
-element-copy-out-pulse c = ?
-
--- src/lib.rt:150:60
-cast-put-pulse : tie.Need-cast-put-pulse Inv-loop μ-loop
-cast-put-pulse c = ?
-
--- src/lib.rt:150:9
 put-pulse-requires : tie.Need-put-pulse-requires Inv-loop μ-loop
-put-pulse-requires c κs = ?
+put-pulse-requires c κs =
+    let l = c .before .before .before in
+    let s = l .before .before .before in
+    let pre = s .pre in
+    ((place-fits _ _ _ _ (pre .0 .0) (c .before .before .loop-test .taken), pre .0 .1),
+    pulse-room _ _ _ _ _ _ (pre .0 .0 .stored) (pre .1) (l .loop .words) (l .loop .next) (l .loop .i) _ (c .before .before .loop-test .taken) (l .loop .inv .1))
 
--- src/lib.rt:151:9
-add-i : tie.Need-add-i Inv-loop μ-loop
-add-i c = ?
-
--- src/lib.rt:148:5
-loop-less : tie.Need-loop-less Inv-loop μ-loop
-loop-less c = ?
-
--- src/lib.rt:148:5
 loop-again : tie.Need-loop-again Inv-loop μ-loop
-loop-again c = ?
+loop-again c =
+    let l = c .before .before .before .before .before .before in
+    let pre = l .before .before .before .pre in
+    (omega arith, pulse-less _ _ _ _ _ _ (pre .0 .0 .stored) (pre .1) (l .loop .words) (l .loop .next) (l .loop .i) _ _ _ (c .before .before .put-pulse .ensures) (c .before .before .before .before .before .loop-test .taken) (l .loop .inv .1))
 
--- src/lib.rt:134:1
 same-length : tie.Need-same-length Inv-loop μ-loop
-same-length c = ?
+same-length c = c .before .loop .inv .1 .size
 
--- src/lib.rt:134:1
 returns : tie.Need-returns Inv-loop μ-loop
-returns c = ?
+returns c =
+    let l = c .before in
+    let pre = l .before .before .before .pre in
+    pulse-none _ _ _ _ _ _ (pre .0 .0 .stored) (pre .1) (l .loop .words) (l .loop .next) (l .loop .i) (c .loop-test .left) (l .loop .inv .1)
 
 pub put-pulses-spec : {M : Type 1} → statement M
 put-pulses-spec =
@@ -57,12 +53,12 @@ put-pulses-spec =
     Inv-loop
     μ-loop
     loop-holds
-    mul-pulse
-    element-copy-out-pulse
-    cast-put-pulse
+    (λ c. omega arith)
+    (λ c. omega arith)
+    (λ c. omega arith)
     put-pulse-requires
-    add-i
-    loop-less
+    (λ c. omega arith)
+    (λ c. omega arith)
     loop-again
     same-length
     returns)

@@ -1,62 +1,51 @@
+-- `channel::samples::put_raw` meets its contract: the header, then the pairs of the part that is the data set.
+use mathlib.Core.Path.{ap, subst, sym}
+use mathlib.Core.List.{List, [], _∷_}
+use Prim.Native.Nat.{ℕ, _+_, _≤_}
+use native.Mathlib.Omega.{arith}
 use borrow.Author.Needs.{needs}
+use lib.ListN.{length}
+use Rattle.items.specs.declared.Item.the-variants as I
+use Rattle.items.specs.ItemsLaws.{then-room, then-written}
+use Rattle.channel.specs.Channel.{pairItems, setOf, rawItems}
+use Rattle.channel.specs.PairsLaws.{part-set}
 use Rattle.channel.proofs.samples.put_raw.Statement.{statement}
 use Rattle.channel.proofs.samples.put_raw.Tie as tie
-use Rattle.channel.proofs.samples.put_raw.Reads as reads
-use Rattle.channel.proofs.samples.put_raw.Lts as lts
-use Rattle.channel.proofs.put_item.Reads as put-item-reads
-use Rattle.channel.proofs.samples.put_pairs.Reads as put-pairs-reads
 
--- src/samples.rt:80:14
-cast-tc : tie.Need-cast-tc
-cast-tc c = search needs
-
--- src/samples.rt:86:9
 put-item-requires : tie.Need-put-item-requires
-put-item-requires c κs = ?
+unfolding rawItems
+put-item-requires c κs = omega arith
 
--- src/samples.rt:87:17
-sub-first : tie.Need-sub-first
-sub-first c = search needs
-
--- src/samples.rt:89:29
-mul-put-pairs : tie.Need-mul-put-pairs
-mul-put-pairs c = search needs
-
--- src/samples.rt:89:29
-sub-put-pairs : tie.Need-sub-put-pairs
-sub-put-pairs c = search needs
-
--- src/samples.rt:89:29
-part-put-pairs-start : tie.Need-part-put-pairs-start
-part-put-pairs-start c = search needs
-
--- src/samples.rt:89:29
-part-put-pairs-end : tie.Need-part-put-pairs-end
-part-put-pairs-end c = search needs
-
--- src/samples.rt:89:5
 put-pairs-requires : tie.Need-put-pairs-requires
-put-pairs-requires c κs = ?
+unfolding rawItems
+put-pairs-requires c κs =
+    let s = c .before .before .before .before .before .before .before .before .before .before in
+    let a = s .args in
+    let x = I.Raw (record { channel = a .channel; pulse = a .i; tc = a .pulse .tc }) in
+    rw (part-set (a .row .now) (a .pulse) (s .pre .0 .0 .first .0))
+    (then-room (a .words .now) (a .at) (x ∷ []) (pairItems (setOf (a .row .now) (a .pulse))) _ _ (s .pre .1) (c .before .before .before .before .before .put-item .ensures))
 
--- src/samples.rt:68:1
-same-length : tie.Need-same-length
-same-length c = search needs
-
--- src/samples.rt:68:1
 returns : tie.Need-returns
-returns c = ?
+unfolding rawItems
+returns c =
+    let s = c .before .before .before .before .before .before .before .before .before .before .before .before .before in
+    let a = s .args in
+    let x = I.Raw (record { channel = a .channel; pulse = a .i; tc = a .pulse .tc }) in
+    then-written (a .words .now) (a .at) (x ∷ []) _ _ (pairItems (setOf (a .row .now) (a .pulse))) _ _ (omega (arith, s .pre .1))
+    (c .before .before .before .before .before .before .before .before .put-item .ensures)
+    (rw (part-set (a .row .now) (a .pulse) (s .pre .0 .0 .first .0)) at (c .before .before .put-pairs .ensures))
 
 pub put-raw-spec : {M : Type 1} → statement M
 put-raw-spec =
     tie.close
     (tie.spec
-    cast-tc
+    (λ c. search needs)
     put-item-requires
-    sub-first
-    mul-put-pairs
-    sub-put-pairs
-    part-put-pairs-start
-    part-put-pairs-end
+    (λ c. search needs)
+    (λ c. search needs)
+    (λ c. search needs)
+    (λ c. search needs)
+    (λ c. search needs)
     put-pairs-requires
-    same-length
+    (λ c. search needs)
     returns)

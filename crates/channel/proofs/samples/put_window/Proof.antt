@@ -1,31 +1,33 @@
+-- `channel::samples::put_window` meets its contract: the header, then the pairs.
+use mathlib.Core.List.{[], _∷_}
+use native.Mathlib.Omega.{arith}
 use borrow.Author.Needs.{needs}
+use lib.ListN.{length}
+use Rattle.items.specs.declared.Item.the-variants as I
+use Rattle.items.specs.ItemsLaws.{then-room, then-written}
+use Rattle.channel.specs.Channel.{pairItems, windowItems}
 use Rattle.channel.proofs.samples.put_window.Statement.{statement}
 use Rattle.channel.proofs.samples.put_window.Tie as tie
-use Rattle.channel.proofs.samples.put_window.Reads as reads
-use Rattle.channel.proofs.samples.put_window.Lts as lts
-use Rattle.channel.proofs.put_item.Reads as put-item-reads
-use Rattle.channel.proofs.samples.put_pairs.Reads as put-pairs-reads
 
--- src/samples.rt:62:17
-cast-width : tie.Need-cast-width
-cast-width c = search needs
-
--- src/samples.rt:63:9
 put-item-requires : tie.Need-put-item-requires
-put-item-requires c κs = ?
+unfolding windowItems
+put-item-requires c κs = omega arith
 
--- src/samples.rt:64:5
 put-pairs-requires : tie.Need-put-pairs-requires
-put-pairs-requires c κs = ?
+unfolding windowItems
+put-pairs-requires c κs =
+    let s = c .before .before .before .before .before .before .before in
+    let a = s .args in
+    then-room (a .words .now) (a .at) (I.Window (record { channel = a .channel; width = length (a .row .now) }) ∷ []) (pairItems (a .row .now)) _ _ (s .pre .1)
+    (c .before .before .before .put-item .ensures)
 
--- src/samples.rt:57:1
-same-length : tie.Need-same-length
-same-length c = search needs
-
--- src/samples.rt:57:1
 returns : tie.Need-returns
-returns c = ?
+unfolding windowItems
+returns c =
+    let s = c .before .before .before .before .before .before .before .before .before .before in
+    let a = s .args in
+    then-written (a .words .now) (a .at) (I.Window (record { channel = a .channel; width = length (a .row .now) }) ∷ []) _ _ (pairItems (a .row .now)) _ _
+    (omega (arith, s .pre .1)) (c .before .before .before .before .before .before .put-item .ensures) (c .before .before .put-pairs .ensures)
 
 pub put-window-spec : {M : Type 1} → statement M
-put-window-spec =
-    tie.close (tie.spec cast-width put-item-requires put-pairs-requires same-length returns)
+put-window-spec = tie.close (tie.spec (λ c. search needs) put-item-requires put-pairs-requires (λ c. search needs) returns)
