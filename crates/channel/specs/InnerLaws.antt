@@ -180,3 +180,9 @@ pub channel-counted : (s : Settings) (t : ℕ) (w : List ℕ) (m : Parts) (found
     → a + b ≡ channelLength (commonOf s) t w
 unfolding channelLength
 channel-counted s t w m found a b p f ha hb = rw (ha, hb, f .some, f .pulses, p)
+
+-- the channel's records from what the code has
+pub channel-found : (s : Settings) (t c : ℕ) (w : List ℕ) (m : Parts) (found : Pulses) → m ≡ partsOf (s .mode) → IsFound s t w found
+    → channelItems (commonOf s) t c w ≡ cond (m .window && ltb 0 (found .count)) (windowItems c w) [] ++ pulsesItems m c w 0 (listed found)
+unfolding channelItems
+channel-found s t c w m found p f = rw (f .some, f .pulses, p)

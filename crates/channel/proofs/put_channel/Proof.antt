@@ -1,44 +1,53 @@
+-- `channel::put_channel` meets its contract: the window where it is wanted, then the pulses that the finder gave.
+use Prim.Native.Nat.{ℕ, _+_, _≤_}
+use mathlib.Core.Bool.{Bool, cond, _&&_}
+use mathlib.Core.List.{List, [], _++_}
+use native.Mathlib.Omega.{arith}
 use borrow.Author.Needs.{needs}
+use lib.Dec.{ltb}
+use lib.ListN.{length}
+use Rattle.items.specs.declared.Item.{Item}
+use Rattle.items.specs.ItemsLaws.{first-room, then-room, then-written}
+use Rattle.channel.specs.Channel.{windowItems, pulsesItems}
+use Rattle.channel.specs.Inner.{listed}
+use Rattle.channel.specs.InnerLaws.{IsFound, is-found, channel-found}
 use Rattle.channel.proofs.put_channel.Statement.{statement}
 use Rattle.channel.proofs.put_channel.Tie as tie
-use Rattle.channel.proofs.put_channel.Reads as reads
-use Rattle.channel.proofs.put_channel.Lts as lts
-use Rattle.channel.proofs.parts_of.Reads as parts-of-reads
-use Rattle.channel.proofs.put_pulses.Reads as put-pulses-reads
-use Rattle.channel.proofs.put_window_if.Reads as put-window-if-reads
-use Rattle.finder.proofs.pulses_of.Reads as pulses-of-reads
 
--- src/lib.rt:182:9
-parts-of-requires : tie.Need-parts-of-requires
-parts-of-requires c κs = search needs
+-- what is known once the finder has answered
+module _ (c : tie.After-pulses-of) where
+  found : IsFound (c .before .before .before .before .args .settings) (c .before .before .before .before .args .threshold) (c .before .before .before .before .args .row .now) (c .pulses-of .result)
+  found = is-found _ _ _ _ (c .before .before .before .before .pre .0 .0) (c .before .before .before .before .pre .0 .1) (c .pulses-of .ensures)
 
--- src/lib.rt:183:9
-pulses-of-requires : tie.Need-pulses-of-requires
-pulses-of-requires c κs = search needs
+  window : List Item
+  window = cond (c .before .parts-of .result .window && ltb 0 (c .pulses-of .result .count)) (windowItems (c .before .before .before .before .args .channel) (c .before .before .before .before .args .row .now)) []
 
--- src/lib.rt:184:9
+  pulses : List Item
+  pulses = pulsesItems (c .before .parts-of .result) (c .before .before .before .before .args .channel) (c .before .before .before .before .args .row .now) 0 (listed (c .pulses-of .result))
+
+  room : c .before .before .before .before .args .at + length (window ++ pulses) ≤ length (c .before .before .before .before .args .words .now)
+  unfolding window pulses
+  room = rw (channel-found _ _ _ _ _ _ (c .before .parts-of .ensures) found) at (c .before .before .before .before .pre .1)
+
 put-window-if-requires : tie.Need-put-window-if-requires
-put-window-if-requires c κs = ?
+unfolding window
+put-window-if-requires c κs =
+    let f = c .before .before .before in
+    (f .before .before .before .before .pre .0 .1, first-room _ _ (window f) _ (room f))
 
--- src/lib.rt:185:5
 put-pulses-requires : tie.Need-put-pulses-requires
-put-pulses-requires c κs = ?
+unfolding window pulses
+put-pulses-requires c κs =
+    let f = c .before .before .before .before .before .before .before in
+    ((found f .inside, f .before .before .before .before .pre .0 .1), then-room _ _ (window f) (pulses f) _ _ (room f) (c .before .before .before .put-window-if .ensures))
 
--- src/lib.rt:170:1
-same-length : tie.Need-same-length
-same-length c = search needs
-
--- src/lib.rt:170:1
 returns : tie.Need-returns
-returns c = ?
+unfolding window pulses
+returns c =
+    let f = c .before .before .before .before .before .before .before .before .before .before in
+    rw (channel-found _ _ _ _ _ _ (f .before .parts-of .ensures) (found f))
+    (then-written _ _ (window f) _ _ (pulses f) _ _ (omega (arith, room f)) (c .before .before .before .before .before .before .put-window-if .ensures) (c .before .before .put-pulses .ensures))
 
 pub put-channel-spec : {M : Type 1} → statement M
 put-channel-spec =
-    tie.close
-    (tie.spec
-    parts-of-requires
-    pulses-of-requires
-    put-window-if-requires
-    put-pulses-requires
-    same-length
-    returns)
+    tie.close (tie.spec (λ c κs. tt) (λ c κs. tt) put-window-if-requires put-pulses-requires (λ c. search needs) returns)
