@@ -1,15 +1,14 @@
 -- Pulses in three places, read in turn; and how many words a channel takes. Assumes nothing.
-use Prim.Native.Nat.{ℕ, zero, suc, _+_, _-_, _/_, _≤_, _<_}
+use Prim.Native.Nat.{ℕ, zero, suc, _+_, _-_, _≤_, _<_}
 use mathlib.Core.Path.{_≡_, refl, sym, ap, ap₂, _∙_}
 use mathlib.Core.Bool.{Bool, true, false, cond, _&&_}
 use mathlib.Core.List.{List, [], _∷_, _++_}
 use native.Mathlib.Omega.{arith}
-use native.Mathlib.Nat.{zero-add}
 use native.Mathlib.Numerals.{add-one}
 use borrow.Author.Tests.{ne-eqb, lt-ltb}
 use lib.Dec.{eqb, ltb}
-use lib.ListN.{length, getD, take, drop, replicate, drop-of-length-le, length-append, length-take, length-drop}
-use lib.Seq.{drop-cons, getD-take, length-take-le, take-at, sets-eq, length-sets}
+use lib.ListN.{length, getD, drop, replicate, drop-of-length-le, length-append, length-take, length-drop}
+use lib.Seq.{drop-cons, getD-take, length-take-le, take-at, sets-eq}
 use Rattle.settings.specs.Ranges.{mostSamples, settingsOk}
 use Rattle.settings.specs.RangesLaws.{settings-in-range}
 use Rattle.settings.specs.declared.Settings.{Settings}
@@ -20,8 +19,8 @@ use Rattle.finder.specs.CallLaws.{find-in-range}
 use Rattle.finder.specs.RangeLaws.{PulseFits, EachFits, fits-at, pulses-fit, pulses-count, packed-count}
 use Rattle.channel.specs.declared.Parts.{Parts}
 use Rattle.items.specs.declared.Item.{Item}
-use Rattle.channel.specs.Channel.{pairItems, windowItems, setOf, rawItems, integralItem, timeItem, pedestalItem, itemIf, partsOf, pulseItems, pulsesItems, Common, commonOf, pulsesOf, channelItems}
-use Rattle.channel.specs.Inner.{listed, InWindow, pairsFor, oneIf, pulseLength, pulsesLength, channelLength}
+use Rattle.channel.specs.Channel.{pairItems, windowItems, setOf, rawItems, integralItem, timeItem, pedestalItem, partsOf, pulseItems, pulsesItems, Common, commonOf, pulsesOf, channelItems}
+use Rattle.channel.specs.Inner.{listed, InWindow, pairsFor, pulseLength, pulsesLength, channelLength}
 
 -- ---- the three places
 

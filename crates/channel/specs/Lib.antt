@@ -3,3 +3,4 @@ pub mod Inner
 pub mod InnerLaws
 pub mod PairsLaws
 pub mod PulsesLaws
+pub mod BoundLaws

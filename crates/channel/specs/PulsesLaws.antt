@@ -1,7 +1,7 @@
 -- A loop that writes the pulses in turn, from the three places. Assumes nothing.
 use Prim.Native.Nat.{ℕ, _+_, _≤_, _<_}
 use mathlib.Core.Path.{_≡_}
-use mathlib.Core.List.{List, [], _∷_, _++_}
+use mathlib.Core.List.{List, _++_}
 use native.Mathlib.Omega.{arith}
 use lib.ListN.{length, getD, drop, drop-of-length-le}
 use Rattle.ground.specs.Splice.{Written}
@@ -9,7 +9,6 @@ use Rattle.ground.specs.WritingLaws.{Left}
 use Rattle.finder.specs.declared.Pulse.{Pulse}
 use Rattle.finder.specs.declared.Pulses.{Pulses}
 use Rattle.items.specs.Items.{wordsOf}
-use Rattle.items.specs.declared.Item.{Item}
 use Rattle.items.specs.ItemsLaws.{loop-room, loop-less, loop-none}
 use Rattle.channel.specs.declared.Parts.{Parts}
 use Rattle.channel.specs.Channel.{pulseItems, pulsesItems}

@@ -1,15 +1,8 @@
 -- `channel::channel_length` meets its contract: the count of what the finder gives.
-use Rattle.channel.specs.InnerLaws.{IsFound, is-found, channel-counted}
-use Rattle.settings.specs.declared.Settings.{Settings}
+use Rattle.channel.specs.InnerLaws.{is-found, channel-counted}
 use borrow.Author.Needs.{needs}
 use Rattle.channel.proofs.channel_length.Statement.{statement}
 use Rattle.channel.proofs.channel_length.Tie as tie
-use Rattle.channel.proofs.channel_length.Reads as reads
-use Rattle.channel.proofs.channel_length.Lts as lts
-use Rattle.channel.proofs.count.pulses_length.Reads as pulses-length-reads
-use Rattle.channel.proofs.count.window_length.Reads as window-length-reads
-use Rattle.channel.proofs.parts_of.Reads as parts-of-reads
-use Rattle.finder.proofs.pulses_of.Reads as pulses-of-reads
 
 -- src/lib.rt:193:9
 parts-of-requires : tie.Need-parts-of-requires

@@ -4,9 +4,6 @@ use Rattle.channel.specs.Channel.{partsOf}
 use borrow.Author.Needs.{needs}
 use Rattle.channel.proofs.parts_of.Statement.{statement}
 use Rattle.channel.proofs.parts_of.Tie as tie
-use Rattle.channel.proofs.parts_of.Reads as reads
-use Rattle.channel.proofs.parts_of.Lts as lts
-use Rattle.channel.proofs.writing.Reads as writing-reads
 
 -- src/lib.rt:50:14
 writing-requires : tie.Need-writing-requires

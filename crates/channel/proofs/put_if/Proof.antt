@@ -4,9 +4,6 @@ use Rattle.ground.specs.WritingLaws.{written-nil}
 use borrow.Author.Needs.{needs}
 use Rattle.channel.proofs.put_if.Statement.{statement}
 use Rattle.channel.proofs.put_if.Tie as tie
-use Rattle.channel.proofs.put_if.Reads as reads
-use Rattle.channel.proofs.put_if.Lts as lts
-use Rattle.channel.proofs.put_item.Reads as put-item-reads
 
 -- src/lib.rt:74:13
 put-item-requires : tie.Need-put-item-requires

@@ -1,7 +1,7 @@
 -- `channel::put_pulse` meets its contract: its records one after the other, each where the mode writes it.
 use mathlib.Core.List.{List, [], _++_}
-use mathlib.Core.Bool.{Bool, cond}
-use Prim.Native.Nat.{ℕ, _+_, _≤_}
+use mathlib.Core.Bool.{cond}
+use Prim.Native.Nat.{_+_, _≤_}
 use native.Mathlib.Omega.{arith}
 use borrow.Author.Needs.{needs}
 use lib.ListN.{length}

@@ -1,8 +1,6 @@
 -- `channel::put_pulses` meets its contract: in a turn what is left begins with the pulse in the i-th place.
 use Prim.Native.Nat.{_-_, _≤_}
-use mathlib.Core.Path.{_∙_}
 use native.Mathlib.Omega.{arith}
-use borrow.Author.Needs.{needs}
 use lib.ListN.{drop}
 use Rattle.ground.specs.WritingLaws.{Left, left-all}
 use Rattle.items.specs.Items.{wordsOf}
@@ -27,9 +25,10 @@ put-pulse-requires : tie.Need-put-pulse-requires Inv-loop μ-loop
 put-pulse-requires c κs =
     let l = c .before .before .before in
     let s = l .before .before .before in
-    let pre = s .pre in
-    ((place-fits _ _ _ _ (pre .0 .0) (c .before .before .loop-test .taken), pre .0 .1),
-    pulse-room _ _ _ _ _ _ (pre .0 .0 .stored) (pre .1) (l .loop .words) (l .loop .next) (l .loop .i) _ (c .before .before .loop-test .taken) (l .loop .inv .1))
+    let pre = s .pre in (
+      (place-fits _ _ _ _ (pre .0 .0) (c .before .before .loop-test .taken), pre .0 .1),
+      pulse-room _ _ _ _ _ _ (pre .0 .0 .stored) (pre .1) (l .loop .words) (l .loop .next) (l .loop .i) _ (c .before .before .loop-test .taken) (l .loop .inv .1),
+    )
 
 loop-again : tie.Need-loop-again Inv-loop μ-loop
 loop-again c =

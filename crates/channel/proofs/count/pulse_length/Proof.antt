@@ -4,10 +4,6 @@ use Rattle.channel.specs.Inner.{pulseLength}
 use borrow.Author.Needs.{needs}
 use Rattle.channel.proofs.count.pulse_length.Statement.{statement}
 use Rattle.channel.proofs.count.pulse_length.Tie as tie
-use Rattle.channel.proofs.count.pulse_length.Reads as reads
-use Rattle.channel.proofs.count.pulse_length.Lts as lts
-use Rattle.channel.proofs.count.one_if.Reads as one-if-reads
-use Rattle.channel.proofs.count.window_length.Reads as window-length-reads
 
 -- src/count.rt:30:44
 add-window-length : tie.Need-add-window-length

@@ -1,6 +1,6 @@
 -- `channel::count::pulses_length` meets its contract: what is counted and what is left are the whole.
 use Prim.Native.Nat.{_+_, _*_, _-_, _≤_}
-use mathlib.Core.Path.{_≡_, refl}
+use mathlib.Core.Path.{_≡_}
 use native.Mathlib.Omega.{arith}
 use native.Mathlib.Nat.{zero-add}
 use lib.ListN.{drop}
@@ -8,9 +8,6 @@ use Rattle.channel.specs.Inner.{listed, pulsesLength}
 use Rattle.channel.specs.InnerLaws.{place-set, count-turn, count-end}
 use Rattle.channel.proofs.count.pulses_length.Statement.{statement}
 use Rattle.channel.proofs.count.pulses_length.Tie as tie
-use Rattle.channel.proofs.count.pulses_length.Reads as reads
-use Rattle.channel.proofs.count.pulses_length.Lts as lts
-use Rattle.channel.proofs.count.pulse_length.Reads as pulse-length-reads
 
 abbrev Inv-loop : tie.InvT-loop
 Inv-loop parts samples found n₀ i₀ n i = (i ≤ found .count) × (n + pulsesLength parts (drop i (listed found)) ≡ pulsesLength parts (listed found)) × (n ≤ 254 * i)

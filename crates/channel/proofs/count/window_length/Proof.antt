@@ -4,8 +4,6 @@ use mathlib.Core.Path.{refl}
 use borrow.Author.Needs.{needs}
 use Rattle.channel.proofs.count.window_length.Statement.{statement}
 use Rattle.channel.proofs.count.window_length.Tie as tie
-use Rattle.channel.proofs.count.window_length.Reads as reads
-use Rattle.channel.proofs.count.window_length.Lts as lts
 
 -- src/count.rt:23:18
 add-result : tie.Need-add-result

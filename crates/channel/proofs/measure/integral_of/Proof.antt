@@ -3,10 +3,6 @@ use Rattle.channel.specs.Channel.{integralItem}
 use borrow.Author.Needs.{needs}
 use Rattle.channel.proofs.measure.integral_of.Statement.{statement}
 use Rattle.channel.proofs.measure.integral_of.Tie as tie
-use Rattle.channel.proofs.measure.integral_of.Reads as reads
-use Rattle.channel.proofs.measure.integral_of.Lts as lts
-use Rattle.channel.proofs.measure.at_most.Reads as at-most-reads
-use Rattle.channel.proofs.measure.quality.Reads as quality-reads
 
 -- src/measure.rt:39:18
 quality-requires : tie.Need-quality-requires

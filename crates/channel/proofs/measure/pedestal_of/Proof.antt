@@ -3,9 +3,6 @@ use Rattle.channel.specs.Channel.{pedestalItem}
 use borrow.Author.Needs.{needs}
 use Rattle.channel.proofs.measure.pedestal_of.Statement.{statement}
 use Rattle.channel.proofs.measure.pedestal_of.Tie as tie
-use Rattle.channel.proofs.measure.pedestal_of.Reads as reads
-use Rattle.channel.proofs.measure.pedestal_of.Lts as lts
-use Rattle.channel.proofs.measure.at_most.Reads as at-most-reads
 
 -- src/measure.rt:67:15
 at-most-requires : tie.Need-at-most-requires

@@ -2,8 +2,6 @@
 use borrow.Author.Tests.{lt-ltb, le-ltb}
 use Rattle.channel.proofs.measure.quality.Statement.{statement}
 use Rattle.channel.proofs.measure.quality.Tie as tie
-use Rattle.channel.proofs.measure.quality.Reads as reads
-use Rattle.channel.proofs.measure.quality.Lts as lts
 
 -- src/measure.rt:21:1
 returns : tie.Need-returns

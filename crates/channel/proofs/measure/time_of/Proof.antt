@@ -3,9 +3,6 @@ use Rattle.channel.specs.Channel.{timeItem}
 use borrow.Author.Needs.{needs}
 use Rattle.channel.proofs.measure.time_of.Statement.{statement}
 use Rattle.channel.proofs.measure.time_of.Tie as tie
-use Rattle.channel.proofs.measure.time_of.Reads as reads
-use Rattle.channel.proofs.measure.time_of.Lts as lts
-use Rattle.channel.proofs.measure.either.Reads as either-reads
 
 -- src/measure.rt:54:30
 cast-either : tie.Need-cast-either

@@ -5,7 +5,6 @@ use mathlib.Core.List.{List, [], _∷_}
 use native.Mathlib.Omega.{arith}
 use borrow.Author.Needs.{needs}
 use lib.ListN.{length, drop, getD}
-use Rattle.ground.specs.Splice.{Written}
 use Rattle.ground.specs.WritingLaws.{Left, left-all}
 use Rattle.items.specs.Items.{wordsOf}
 use Rattle.items.specs.declared.Item.{Item}
@@ -53,10 +52,12 @@ loop-again c =
     let w = a .args .samples .now in
     let i = l .loop .i in
     let x = pair 0 (getD w i 0) (getD w (i + 1) 0) in
-    let rest = pairItems (drop (i + 2) w) in
-    (omega arith, loop-less (a .args .words .now) (a .args .at) (pairItems w) (a .pre) (l .loop .words) (l .loop .next) (x ∷ []) rest _ _
-    (again _ _ w _ _ i (x ∷ rest) (pairs-two w i (omega arith)) (l .loop .inv .1))
-    (rw (c .before .before .before .pair-of .ensures) at (c .before .before .put-item .ensures)))
+    let rest = pairItems (drop (i + 2) w) in (
+      omega arith,
+      loop-less (a .args .words .now) (a .args .at) (pairItems w) (a .pre) (l .loop .words) (l .loop .next) (x ∷ []) rest _ _
+          (again _ _ w _ _ i (x ∷ rest) (pairs-two w i (omega arith)) (l .loop .inv .1))
+          (rw (c .before .before .before .pair-of .ensures) at (c .before .before .put-item .ensures)),
+    )
 
 put-item-requires-2 : tie.Need-put-item-requires-2 Inv-loop μ-loop
 unfolding pair

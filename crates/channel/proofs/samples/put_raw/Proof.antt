@@ -1,10 +1,7 @@
 -- `channel::samples::put_raw` meets its contract: the header, then the pairs of the part that is the data set.
-use mathlib.Core.Path.{ap, subst, sym}
-use mathlib.Core.List.{List, [], _∷_}
-use Prim.Native.Nat.{ℕ, _+_, _≤_}
+use mathlib.Core.List.{[], _∷_}
 use native.Mathlib.Omega.{arith}
 use borrow.Author.Needs.{needs}
-use lib.ListN.{length}
 use Rattle.items.specs.declared.Item.the-variants as I
 use Rattle.items.specs.ItemsLaws.{then-room, then-written}
 use Rattle.channel.specs.Channel.{pairItems, setOf, rawItems}
