@@ -1,0 +1,37 @@
+-- What one event writes: document 01, "One event, one store", as lists of records. Assumes nothing.
+use Prim.Native.Nat.{ℕ, _+_, _*_, _/_, _%_, _^_}
+use mathlib.Core.Bool.{Bool, true, not, cond, _&&_, _||_}
+use mathlib.Core.List.{List, [], _∷_, _++_}
+use lib.ListN.{getD, take, drop}
+use lib.Dec.{leb}
+use Rattle.settings.specs.declared.Settings.{Settings}
+use Rattle.settings.specs.Sample.{samplesOk}
+use Rattle.items.specs.declared.Item.{Item}
+use Rattle.items.specs.declared.Item.the-variants as I
+use Rattle.channel.specs.Channel.{itemIf, commonOf, channelItems}
+
+-- "The host lends the store, 16 rows of NW samples, row c from place c x NW."
+unfoldable pub row : ℕ → ℕ → List ℕ → List ℕ
+row nw c store = take nw (drop (c * nw) store)
+
+-- no sample over 8,191 "in a posted channel's row of the store then lent", from channel c on
+unfoldable pub rowsOk : ℕ → List ℕ → ℕ → List Bool → Bool
+rowsOk nw store c [] = true
+rowsOk nw store c (posted ∷ more) = (not posted || samplesOk (row nw c store)) && rowsOk nw store (c + 1) more
+
+-- "Trigger-time words 0, 1 or 2.": "time bits 26-24, .. time bits 23-0", and "time bits 47-24"
+unfoldable pub timeItems : ℕ → ℕ → List Item
+timeItems times time =
+    itemIf (leb 1 times) (I.Clock (record { middle = time / 2 ^ 24 % 2 ^ 3; low = time % 2 ^ 24 }))
+    ++ itemIf (leb 2 times) (I.ClockHigh (record { high = time / 2 ^ 24 }))
+
+-- "then words for posted channels only", "channels rising", from channel c on
+unfoldable pub channelsItems : Settings → List ℕ → ℕ → List Bool → List Item
+channelsItems s store c [] = []
+channelsItems s store c (posted ∷ more) =
+    cond posted (channelItems (commonOf s) (getD (s .thresholds) c 0) c (row (s .nw) c store)) [] ++ channelsItems s store (c + 1) more
+
+-- "Closing writes event header, time words, then words for posted channels only": the event's number and time, the marks, the store
+unfoldable pub eventItems : Settings → ℕ → ℕ → List Bool → List ℕ → List Item
+eventItems s number time posted store =
+    I.Event (record { slot = s .slot; number = number }) ∷ (timeItems (s .times) time ++ channelsItems s store 0 posted)

@@ -1,0 +1,132 @@
+-- The rows of the store and the posted channels, in turn. Assumes nothing.
+use Prim.Native.Nat.{ℕ, _+_, _-_, _*_, _≤_, _<_}
+use mathlib.Core.Path.{_≡_, refl, sym, ap, _∙_}
+use mathlib.Core.Bool.{Bool, true, false, not, cond, _&&_, _||_}
+use mathlib.Core.List.{List, [], _∷_, _++_}
+use native.Mathlib.Omega.{arith}
+use native.Mathlib.Nat.{suc-mul, mul-le-mul-right}
+use native.Mathlib.Numerals.{add-one}
+use lib.ListN.{length, getD, take, drop, length-append, length-take, length-drop, drop-of-length-le}
+use lib.Seq.{drop-cons}
+use Rattle.ground.specs.Splice.{Written}
+use Rattle.ground.specs.WritingLaws.{Left}
+use Rattle.settings.specs.declared.Settings.{Settings}
+use Rattle.settings.specs.Ranges.{mostSamples, settingsOk}
+use Rattle.settings.specs.RangesLaws.{settings-in-range}
+use Rattle.settings.specs.Sample.{samplesOk}
+use Rattle.items.specs.Items.{wordsOf}
+use Rattle.items.specs.declared.Item.{Item}
+use Rattle.items.specs.ItemsLaws.{loop-room, loop-less, loop-none}
+use Rattle.channel.specs.Channel.{commonOf, channelItems}
+use Rattle.channel.specs.Inner.{channelLength}
+use Rattle.channel.specs.InnerLaws.{length-channel}
+use Rattle.channel.specs.BoundLaws.{channel-most}
+use Rattle.event.specs.Event.{row, rowsOk, channelsItems}
+use Rattle.event.specs.Inner.{Lent}
+
+-- ---- a row
+
+-- a row ends where the next begins, or before
+row-end : (c n nw : ℕ) → c < n → c * nw + nw ≤ n * nw
+row-end c n nw h = rw (← suc-mul c nw) (mul-le-mul-right nw h)
+
+module _ (s : Settings) (posted : List Bool) (store : List ℕ) (lent : Lent s posted store) where
+  -- it lies in the store
+  pub row-inside : (c : ℕ) → c < length posted → c * s .nw + s .nw ≤ length store
+  row-inside c h = omega (arith, row-end c 16 (s .nw) (omega (arith, lent .marks)), lent .rows)
+
+  pub row-short : (c : ℕ) → length (take (c * s .nw + s .nw - c * s .nw) (drop (c * s .nw) store)) ≤ mostSamples
+  row-short c = simp length-take (omega (arith, settings-in-range s (lent .settings) .nw .1))
+
+-- the part that is lent on is the row
+pub part-row : (nw c : ℕ) (store : List ℕ) → take (c * nw + nw - c * nw) (drop (c * nw) store) ≡ row nw c store
+unfolding row
+part-row nw c store =
+    let e : c * nw + nw - c * nw ≡ nw = omega arith in
+    rw e
+
+-- the marks from c on: that of channel c, then those from c + 1 on
+marks-step : (posted : List Bool) (c : ℕ) → c < length posted → drop c posted ≡ getD posted c false ∷ drop (c + 1) posted
+marks-step posted c h = drop-cons posted c false h ∙ ap (λ (n : ℕ). getD posted c false ∷ drop n posted) (sym (add-one c))
+
+-- ---- rows tested in turn
+
+module _ (nw : ℕ) (store : List ℕ) (posted : List Bool) (good : Bool) (c : ℕ) (so-far : good && rowsOk nw store c (drop c posted) ≡ rowsOk nw store 0 posted) where
+  pub rows-turn : (b : Bool) → b ≡ (not (getD posted c false) || samplesOk (row nw c store)) → c < length posted
+      → (good && b) && rowsOk nw store (c + 1) (drop (c + 1) posted) ≡ rowsOk nw store 0 posted
+  unfolding rowsOk
+  rows-turn b e h =
+      let k = rw (marks-step posted c h) at so-far in
+      rw e (join good (not (getD posted c false) || samplesOk (row nw c store)) (rowsOk nw store (c + 1) (drop (c + 1) posted)) ∙ k)
+    where
+      join : (x y z : Bool) → (x && y) && z ≡ x && (y && z)
+      join true y z = refl
+      join false y z = refl
+
+  pub rows-end : length posted ≤ c → good ≡ rowsOk nw store 0 posted
+  unfolding rowsOk
+  rows-end h = last good ∙ rw (drop-of-length-le posted h) at so-far
+    where
+      last : (x : Bool) → x ≡ x && true
+      last true = refl
+      last false = refl
+
+-- ---- channels written in turn
+
+-- what channel c writes
+abbrev pub channelAt : Settings → List ℕ → List Bool → ℕ → List Item
+channelAt s store posted c = cond (getD posted c false) (channelItems (commonOf s) (getD (s .thresholds) c 0) c (row (s .nw) c store)) []
+
+pub channels-step : (s : Settings) (store : List ℕ) (posted : List Bool) (c : ℕ) → c < length posted
+    → channelsItems s store c (drop c posted) ≡ channelAt s store posted c ++ channelsItems s store (c + 1) (drop (c + 1) posted)
+unfolding channelsItems
+channels-step s store posted c h = rw (marks-step posted c h)
+
+pub channels-end : (s : Settings) (store : List ℕ) (posted : List Bool) (c : ℕ) → length posted ≤ c → channelsItems s store c (drop c posted) ≡ []
+unfolding channelsItems
+channels-end s store posted c h = rw (drop-of-length-le posted h)
+
+module _ (buf₀ : List ℕ) (at : ℕ) (s : Settings) (store : List ℕ) (posted : List Bool)
+    (fits : at + length (channelsItems s store 0 posted) ≤ length buf₀) where
+  -- the channels from c on are still to be written, from place k of buf
+  abbrev pub ToCome : List ℕ → ℕ → ℕ → Type 0
+  ToCome buf k c = Left buf₀ at (wordsOf (channelsItems s store 0 posted)) buf k (wordsOf (channelsItems s store c (drop c posted)))
+
+  pub channel-room : (buf : List ℕ) (k c : ℕ) → c < length posted → ToCome buf k c → k + length (channelAt s store posted c) ≤ length buf
+  channel-room buf k c h l =
+      loop-room buf₀ at (channelsItems s store 0 posted) fits buf k (channelAt s store posted c) (channelsItems s store (c + 1) (drop (c + 1) posted))
+      (rw (channels-step s store posted c h) at l)
+
+  pub channel-less : (buf : List ℕ) (k c k′ : ℕ) (buf′ : List ℕ) → Written buf k (wordsOf (channelAt s store posted c)) k′ buf′ → c < length posted
+      → ToCome buf k c → ToCome buf′ k′ (c + 1)
+  channel-less buf k c k′ buf′ w h l =
+      loop-less buf₀ at (channelsItems s store 0 posted) fits buf k (channelAt s store posted c) (channelsItems s store (c + 1) (drop (c + 1) posted)) k′ buf′
+      (rw (channels-step s store posted c h) at l) w
+
+  pub channel-none : (buf : List ℕ) (k c : ℕ) → length posted ≤ c → ToCome buf k c → Written buf₀ at (wordsOf (channelsItems s store 0 posted)) k buf
+  channel-none buf k c h l = loop-none buf₀ at (channelsItems s store 0 posted) fits buf k (rw (channels-end s store posted c h) at l)
+
+-- ---- channels counted in turn
+
+pub length-posted : (s : Settings) (t c : ℕ) (w : List ℕ) (b : Bool) → settingsOk s ≡ true
+    → length (cond b (channelItems (commonOf s) t c w) []) ≡ cond b (channelLength (commonOf s) t w) 0
+length-posted s t c w true ok = length-channel (commonOf s) t c w (settings-in-range s ok .nsa .0)
+length-posted s t c w false ok = refl
+
+module _ (s : Settings) (store : List ℕ) (posted : List Bool) (ok : settingsOk s ≡ true) (n c : ℕ)
+    (so-far : n + length (channelsItems s store c (drop c posted)) ≡ length (channelsItems s store 0 posted)) where
+  pub count-turn : (r : ℕ) → r ≡ cond (getD posted c false) (channelLength (commonOf s) (getD (s .thresholds) c 0) (row (s .nw) c store)) 0 → c < length posted
+      → n + r + length (channelsItems s store (c + 1) (drop (c + 1) posted)) ≡ length (channelsItems s store 0 posted)
+  count-turn r e h =
+      let k = rw (channels-step s store posted c h) at so-far in
+      let p = length-posted s (getD (s .thresholds) c 0) c (row (s .nw) c store) (getD posted c false) ok in
+      omega (arith, k, e, p, length-append (channelAt s store posted c) (channelsItems s store (c + 1) (drop (c + 1) posted)))
+
+  pub count-end : length posted ≤ c → n ≡ length (channelsItems s store 0 posted)
+  count-end h = let k = rw (channels-end s store posted c h) at so-far in omega (arith, k)
+
+-- a posted channel is at most 753 words
+pub posted-most : (s : Settings) (t c : ℕ) (w : List ℕ) (b : Bool) → settingsOk s ≡ true → length w ≤ mostSamples
+    → length (cond b (channelItems (commonOf s) t c w) []) ≤ 753
+posted-most s t c w true ok h = channel-most s t c w ok h
+posted-most s t c w false ok h = omega arith

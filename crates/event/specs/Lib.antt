@@ -1,0 +1,3 @@
+pub mod Event
+pub mod Inner
+pub mod EventLaws

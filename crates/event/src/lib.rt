@@ -1,0 +1,182 @@
+// The words of one event: its header, its time, and the posted channels of the store.
+use frame::event_header::EventHeader;
+use frame::trigger_time::TriggerTime;
+use frame::trigger_time_high::TriggerTimeHigh;
+use items::Item;
+use settings::Settings;
+ghost use mathlib.Core.Path.{_≡_};
+ghost use mathlib.Core.Bool.{Bool, true, cond, not, _||_};
+ghost use mathlib.Core.List.{[]};
+ghost use Prim.Native.Nat.{_+_, _-_, _*_, _^_, _≤_};
+ghost use lib.ListN.{length};
+ghost use Rattle.ground.specs.Splice.{Written};
+ghost use Rattle.settings.specs.Ranges.{mostSamples, settingsOk};
+ghost use Rattle.settings.specs.Sample.{samplesOk};
+ghost use Rattle.items.specs.Items.{wordsOf};
+ghost use Rattle.channel.specs.Channel.{commonOf, channelItems};
+ghost use Rattle.channel.specs.Inner.{channelLength};
+ghost use Rattle.event.specs.Event.{rowsOk, timeItems, channelsItems, eventItems};
+ghost use Rattle.event.specs.Inner.{Lent, eventLength};
+
+// A posted channel's row has no sample over the greatest; no other row is looked at.
+fn row_ok(posted: bool, row: &[u16]) -> bool
+    ensures { λ r. ⌜ r ≡ (not posted || samplesOk (now (row .entry))) ⌝ }
+{
+    if posted {
+        settings::samples_ok(row)
+    } else {
+        true
+    }
+}
+
+// The same of every posted channel.
+pub fn rows_ok(settings: Settings, posted: &[bool], store: &[u16]) -> bool
+    requires { ⌜ Lent settings (now posted) (now store) ⌝ }
+    ensures { λ r. ⌜ r ≡ rowsOk (settings .nw) (now (store .entry)) 0 (now (posted .entry)) ⌝ }
+{
+    let nw = settings.nw;
+    let mut good = true;
+    let mut channel = 0;
+    while channel < posted.len() {
+        let start = channel * nw;
+        let end = start + nw;
+        good = good & row_ok(posted[channel], &store[start..end]);
+        channel += 1;
+    }
+    good
+}
+
+// The words of a channel if it is posted.
+fn put_posted(
+    words: &mut [u32],
+    at: usize,
+    settings: Settings,
+    posted: bool,
+    threshold: u32,
+    channel: u32,
+    row: &[u16],
+) -> usize
+    requires { ⌜ (settingsOk settings ≡ true) × (length (now row) ≤ mostSamples) ⌝ }
+    requires { ⌜ at + length (cond posted (channelItems (commonOf settings) threshold channel (now row)) []) ≤ length (now words) ⌝ }
+    ensures { λ r. ⌜ Written (now (words .entry)) at (wordsOf (cond posted (channelItems (commonOf settings) threshold channel (now (row .entry))) [])) r (now (words .exit)) ⌝ }
+{
+    if posted {
+        channel::put_channel(words, at, settings, threshold, channel, row)
+    } else {
+        at
+    }
+}
+
+// The posted channels, rising.
+fn put_channels(
+    words: &mut [u32],
+    at: usize,
+    settings: Settings,
+    posted: &[bool],
+    store: &[u16],
+) -> usize
+    requires { ⌜ Lent settings (now posted) (now store) ⌝ }
+    requires { ⌜ at + length (channelsItems settings (now store) 0 (now posted)) ≤ length (now words) ⌝ }
+    ensures { λ r. ⌜ Written (now (words .entry)) at (wordsOf (channelsItems settings (now (store .entry)) 0 (now (posted .entry)))) r (now (words .exit)) ⌝ }
+{
+    let thresholds = settings.thresholds;
+    let nw = settings.nw;
+    let mut next = at;
+    let mut channel = 0;
+    while channel < posted.len() {
+        let start = channel * nw;
+        let end = start + nw;
+        next = put_posted(
+            words,
+            next,
+            settings,
+            posted[channel],
+            thresholds[channel],
+            channel as u32,
+            &store[start..end],
+        );
+        channel += 1;
+    }
+    next
+}
+
+// The time words: none, the low 27 bits, or all 48.
+fn put_times(words: &mut [u32], at: usize, times: u32, time: u64) -> usize
+    requires { ⌜ time ≤ 2 ^ 48 - 1 ⌝ }
+    requires { ⌜ at + length (timeItems times time) ≤ length (now words) ⌝ }
+    ensures { λ r. ⌜ Written (now (words .entry)) at (wordsOf (timeItems times time)) r (now (words .exit)) ⌝ }
+{
+    let low = TriggerTime {
+        middle: (time / 16777216 % 8) as u32,
+        low: (time % 16777216) as u32,
+    };
+    let second = channel::put_if(words, at, 1 <= times, Item::Clock(low));
+    let high = TriggerTimeHigh {
+        high: (time / 16777216) as u32,
+    };
+    channel::put_if(words, second, 2 <= times, Item::ClockHigh(high))
+}
+
+// All words of an event.
+pub fn put_event(
+    words: &mut [u32],
+    at: usize,
+    settings: Settings,
+    number: u32,
+    time: u64,
+    posted: &[bool],
+    store: &[u16],
+) -> usize
+    requires { ⌜ Lent settings (now posted) (now store) × (time ≤ 2 ^ 48 - 1) ⌝ }
+    requires { ⌜ at + length (eventItems settings number time (now posted) (now store)) ≤ length (now words) ⌝ }
+    ensures { λ r. ⌜ Written (now (words .entry)) at (wordsOf (eventItems settings number time (now (posted .entry)) (now (store .entry)))) r (now (words .exit)) ⌝ }
+{
+    let header = EventHeader {
+        slot: settings.slot,
+        number,
+    };
+    let times = channel::put_item(words, at, Item::Event(header));
+    let channels = put_times(words, times, settings.times, time);
+    put_channels(words, channels, settings, posted, store)
+}
+
+fn posted_length(settings: Settings, posted: bool, threshold: u32, row: &[u16]) -> usize
+    requires { ⌜ (settingsOk settings ≡ true) × (length (now row) ≤ mostSamples) ⌝ }
+    ensures { λ r. ⌜ (r ≡ cond posted (channelLength (commonOf settings) threshold (now (row .entry))) 0) × (r ≤ 753) ⌝ }
+{
+    if posted {
+        channel::channel_length(settings, threshold, row)
+    } else {
+        0
+    }
+}
+
+fn channels_length(settings: Settings, posted: &[bool], store: &[u16]) -> usize
+    requires { ⌜ Lent settings (now posted) (now store) ⌝ }
+    ensures { λ r. ⌜ (r ≡ length (channelsItems settings (now (store .entry)) 0 (now (posted .entry)))) × (r ≤ 12048) ⌝ }
+{
+    let thresholds = settings.thresholds;
+    let nw = settings.nw;
+    let mut n = 0;
+    let mut channel = 0;
+    while channel < posted.len() {
+        let start = channel * nw;
+        let end = start + nw;
+        n += posted_length(
+            settings,
+            posted[channel],
+            thresholds[channel],
+            &store[start..end],
+        );
+        channel += 1;
+    }
+    n
+}
+
+// How many words an event takes.
+pub fn event_length(settings: Settings, posted: &[bool], store: &[u16]) -> usize
+    requires { ⌜ Lent settings (now posted) (now store) ⌝ }
+    ensures { λ r. ⌜ r ≡ eventLength settings (now (posted .entry)) (now (store .entry)) ⌝ }
+{
+    1 + (settings.times as usize) + channels_length(settings, posted, store)
+}
