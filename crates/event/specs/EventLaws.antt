@@ -1,12 +1,13 @@
 -- The rows of the store and the posted channels, in turn. Assumes nothing.
-use Prim.Native.Nat.{ℕ, _+_, _-_, _*_, _≤_, _<_}
-use mathlib.Core.Path.{_≡_, refl, sym, ap, _∙_}
+use Prim.Native.Nat.{ℕ, zero, suc, _+_, _-_, _*_, _/_, _%_, _^_, _≤_, _<_}
+use mathlib.Core.Path.{_≡_, refl, sym, ap, ap₂, _∙_}
 use mathlib.Core.Bool.{Bool, true, false, not, cond, _&&_, _||_}
 use mathlib.Core.List.{List, [], _∷_, _++_}
 use native.Mathlib.Omega.{arith}
 use native.Mathlib.Nat.{suc-mul, mul-le-mul-right}
 use native.Mathlib.Numerals.{add-one}
-use lib.ListN.{length, getD, take, drop, length-append, length-take, length-drop, drop-of-length-le}
+use lib.ListN.{length, getD, take, drop, length-append, length-take, drop-of-length-le}
+use lib.Dec.{leb}
 use lib.Seq.{drop-cons}
 use Rattle.ground.specs.Splice.{Written}
 use Rattle.ground.specs.WritingLaws.{Left}
@@ -16,13 +17,14 @@ use Rattle.settings.specs.RangesLaws.{settings-in-range}
 use Rattle.settings.specs.Sample.{samplesOk}
 use Rattle.items.specs.Items.{wordsOf}
 use Rattle.items.specs.declared.Item.{Item}
+use Rattle.items.specs.declared.Item.the-variants as I
 use Rattle.items.specs.ItemsLaws.{loop-room, loop-less, loop-none}
-use Rattle.channel.specs.Channel.{commonOf, channelItems}
+use Rattle.channel.specs.Channel.{itemIf, commonOf, channelItems}
 use Rattle.channel.specs.Inner.{channelLength}
 use Rattle.channel.specs.InnerLaws.{length-channel}
 use Rattle.channel.specs.BoundLaws.{channel-most}
-use Rattle.event.specs.Event.{row, rowsOk, channelsItems}
-use Rattle.event.specs.Inner.{Lent}
+use Rattle.event.specs.Event.{row, rowsOk, timeItems, channelsItems, eventItems}
+use Rattle.event.specs.Inner.{Lent, eventLength}
 
 -- ---- a row
 
@@ -126,7 +128,55 @@ module _ (s : Settings) (store : List ℕ) (posted : List Bool) (ok : settingsOk
   count-end h = let k = rw (channels-end s store posted c h) at so-far in omega (arith, k)
 
 -- a posted channel is at most 753 words
-pub posted-most : (s : Settings) (t c : ℕ) (w : List ℕ) (b : Bool) → settingsOk s ≡ true → length w ≤ mostSamples
-    → length (cond b (channelItems (commonOf s) t c w) []) ≤ 753
-posted-most s t c w true ok h = channel-most s t c w ok h
-posted-most s t c w false ok h = omega arith
+pub posted-most : (s : Settings) (t : ℕ) (w : List ℕ) (b : Bool) → settingsOk s ≡ true → length w ≤ mostSamples → cond b (channelLength (commonOf s) t w) 0 ≤ 753
+posted-most s t w true ok h = rw (length-channel (commonOf s) t 0 w (settings-in-range s ok .nsa .0)) at (channel-most s t 0 w ok h)
+posted-most s t w false ok h = omega arith
+
+-- ---- an event
+
+pub length-times : (times time : ℕ) → times ≤ 2 → length (timeItems times time) ≡ times
+unfolding timeItems
+length-times times time h =
+    length-append (itemIf (leb 1 times) (I.Clock (record { middle = time / 2 ^ 24 % 2 ^ 3; low = time % 2 ^ 24 }))) (itemIf (leb 2 times) (I.ClockHigh (record { high = time / 2 ^ 24 })))
+    ∙ ap₂ (λ (a b : ℕ). a + b) (one (leb 1 times) _) (one (leb 2 times) _)
+    ∙ by times h
+  where
+    one : (b : Bool) (x : Item) → length (itemIf b x) ≡ cond b 1 0
+    one true x = refl
+    one false x = refl
+
+    by : (n : ℕ) → n ≤ 2 → cond (leb 1 n) 1 0 + cond (leb 2 n) 1 0 ≡ n
+    by zero h = refl
+    by (suc zero) h = refl
+    by (suc (suc zero)) h = refl
+    by (suc (suc (suc n))) h = absurd (omega arith)
+
+pub length-event : (s : Settings) (number time : ℕ) (posted : List Bool) (store : List ℕ) → settingsOk s ≡ true
+    → length (eventItems s number time posted store) ≡ eventLength s posted store
+unfolding eventItems eventLength
+length-event s number time posted store ok =
+    omega (arith, length-append (timeItems (s .times) time) (channelsItems s store 0 posted), length-times (s .times) time (settings-in-range s ok .times))
+
+length-channels : (s : Settings) (store : List ℕ) (c : ℕ) (posted : List Bool) → settingsOk s ≡ true → length (channelsItems s store c posted) ≤ length posted * 753
+unfolding channelsItems row
+length-channels s store c [] ok = omega arith
+length-channels s store c (m ∷ ms) ok =
+    let w = row (s .nw) c store in
+    let short : length w ≤ mostSamples = simp length-take (omega (arith, settings-in-range s ok .nw .1)) in
+    let t = getD (s .thresholds) c 0 in
+    omega (
+      arith,
+      posted-most s t w m ok short,
+      length-posted s t c w m ok,
+      length-channels s store (c + 1) ms ok,
+      length-append (cond m (channelItems (commonOf s) t c w) []) (channelsItems s store (c + 1) ms),
+    )
+
+-- "an event at most 12,051" words, and at least its header and time words
+pub event-most : (s : Settings) (posted : List Bool) (store : List ℕ) → settingsOk s ≡ true → length posted ≤ 16 → eventLength s posted store ≤ 12051
+unfolding eventLength
+event-most s posted store ok h = omega (arith, length-channels s store 0 posted ok, settings-in-range s ok .times)
+
+pub event-least : (s : Settings) (posted : List Bool) (store : List ℕ) → 1 + s .times ≤ eventLength s posted store
+unfolding eventLength
+event-least s posted store = omega arith

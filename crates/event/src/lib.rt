@@ -5,7 +5,7 @@ use frame::trigger_time_high::TriggerTimeHigh;
 use items::Item;
 use settings::Settings;
 ghost use mathlib.Core.Path.{_≡_};
-ghost use mathlib.Core.Bool.{Bool, true, cond, not, _||_};
+ghost use mathlib.Core.Bool.{true, cond, not, _||_};
 ghost use mathlib.Core.List.{[]};
 ghost use Prim.Native.Nat.{_+_, _-_, _*_, _^_, _≤_};
 ghost use lib.ListN.{length};

@@ -5,65 +5,30 @@ use borrow.Author.Needs.{needs}
 use Rattle.channel.proofs.parts_of.Statement.{statement}
 use Rattle.channel.proofs.parts_of.Tie as tie
 
--- src/lib.rt:50:14
-writing-requires : tie.Need-writing-requires
-writing-requires c κs = search needs
-
--- src/lib.rt:51:14
-writing-requires-2 : tie.Need-writing-requires-2
-writing-requires-2 c κs = search needs
-
--- src/lib.rt:52:14
-writing-requires-3 : tie.Need-writing-requires-3
-writing-requires-3 c κs = search needs
-
--- src/lib.rt:53:14
-writing-requires-4 : tie.Need-writing-requires-4
-writing-requires-4 c κs = search needs
-
--- src/lib.rt:54:14
-writing-requires-5 : tie.Need-writing-requires-5
-writing-requires-5 c κs = search needs
-
--- src/lib.rt:55:14
-writing-requires-6 : tie.Need-writing-requires-6
-writing-requires-6 c κs = search needs
-
--- src/lib.rt:56:14
-writing-requires-7 : tie.Need-writing-requires-7
-writing-requires-7 c κs = search needs
-
--- src/lib.rt:46:1
 returns : tie.Need-returns
 unfolding partsOf
 returns c = rw (c .before .match .keys1) (c .writing .ensures)
 
--- src/lib.rt:46:1
 returns-2 : tie.Need-returns-2
 unfolding partsOf
 returns-2 c = rw (c .before .match .keys2) (c .writing2 .ensures)
 
--- src/lib.rt:46:1
 returns-3 : tie.Need-returns-3
 unfolding partsOf
 returns-3 c = rw (c .before .match .keys3) (c .writing3 .ensures)
 
--- src/lib.rt:46:1
 returns-4 : tie.Need-returns-4
 unfolding partsOf
 returns-4 c = rw (c .before .match .keys4) (c .writing4 .ensures)
 
--- src/lib.rt:46:1
 returns-5 : tie.Need-returns-5
 unfolding partsOf
 returns-5 c = rw (c .before .match .keys5) (c .writing5 .ensures)
 
--- src/lib.rt:46:1
 returns-6 : tie.Need-returns-6
 unfolding partsOf
 returns-6 c = rw (c .before .match .keys6) (c .writing6 .ensures)
 
--- src/lib.rt:46:1
 returns-7 : tie.Need-returns-7
 unfolding partsOf
 returns-7 c = rw (ne-eqb _ _ (c .before .match .rest .0 .0 .0 .0 .0 .1), ne-eqb _ _ (c .before .match .rest .0 .0 .0 .0 .1), ne-eqb _ _ (c .before .match .rest .0 .0 .0 .1), ne-eqb _ _ (c .before .match .rest .0 .0 .1), ne-eqb _ _ (c .before .match .rest .0 .1), ne-eqb _ _ (c .before .match .rest .1)) (c .writing7 .ensures)
@@ -72,13 +37,13 @@ pub parts-of-spec : {M : Type 1} → statement M
 parts-of-spec =
     tie.close
     (tie.spec
-    writing-requires
-    writing-requires-2
-    writing-requires-3
-    writing-requires-4
-    writing-requires-5
-    writing-requires-6
-    writing-requires-7
+    (λ c κs. search needs)
+    (λ c κs. search needs)
+    (λ c κs. search needs)
+    (λ c κs. search needs)
+    (λ c κs. search needs)
+    (λ c κs. search needs)
+    (λ c κs. search needs)
     returns
     returns-2
     returns-3

@@ -5,21 +5,14 @@ use borrow.Author.Needs.{needs}
 use Rattle.channel.proofs.put_if.Statement.{statement}
 use Rattle.channel.proofs.put_if.Tie as tie
 
--- src/lib.rt:74:13
 put-item-requires : tie.Need-put-item-requires
 put-item-requires c κs = let p = rw (c .before .if1 .taken) at (c .before .before .before .pre) in omega arith
 
--- src/lib.rt:70:1
-same-length : tie.Need-same-length
-same-length c = search needs
-
--- src/lib.rt:70:1
 returns : tie.Need-returns
 returns c = rw (c .before .before .before .before .if1 .taken) (c .before .before .put-item .ensures)
 
--- src/lib.rt:70:1
 returns-2 : tie.Need-returns-2
 returns-2 c = rw (c .if1 .left) (written-nil _ _)
 
 pub put-if-spec : {M : Type 1} → statement M
-put-if-spec = tie.close (tie.spec put-item-requires same-length returns returns-2)
+put-if-spec = tie.close (tie.spec put-item-requires (λ c. search needs) returns returns-2)

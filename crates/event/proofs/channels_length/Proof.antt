@@ -1,78 +1,62 @@
+-- `event::channels_length` meets its contract: what is counted and what is left are the whole.
+use Prim.Native.Nat.{_+_, _*_, _-_, _≤_}
+use mathlib.Core.Path.{_≡_}
+use native.Mathlib.Omega.{arith}
+use native.Mathlib.Nat.{zero-add}
+use borrow.Author.Needs.{needs}
+use lib.ListN.{length, drop}
+use Rattle.event.specs.Event.{channelsItems}
+use Rattle.event.specs.EventLaws.{row-inside, row-short, part-row, count-turn, count-end}
 use Rattle.event.proofs.channels_length.Statement.{statement}
 use Rattle.event.proofs.channels_length.Tie as tie
-use Rattle.event.proofs.channels_length.Reads as reads
-use Rattle.event.proofs.channels_length.Lts as lts
-use Rattle.event.proofs.posted_length.Reads as posted-length-reads
 
 abbrev Inv-loop : tie.InvT-loop
-Inv-loop settings posted store thresholds nw n₀ channel₀ n channel = ?
+Inv-loop settings posted store thresholds nw n₀ channel₀ n channel =
+    (channel ≤ length posted) × (n + length (channelsItems settings store channel (drop channel posted)) ≡ length (channelsItems settings store 0 posted)) × (n ≤ 753 * channel)
 
 abbrev μ-loop : tie.MeasureT-loop
-μ-loop settings posted store thresholds nw n₀ channel₀ n channel = ?
+μ-loop settings posted store thresholds nw n₀ channel₀ n channel = length posted - channel
 
--- src/lib.rt:162:5
 loop-holds : tie.Need-loop-holds Inv-loop μ-loop
-loop-holds c = ?
+loop-holds c = (omega arith, zero-add _, omega arith)
 
--- src/lib.rt:163:21
 mul-start : tie.Need-mul-start Inv-loop μ-loop
-mul-start c = ?
+mul-start c = let s = c .before .before .before .before .before in omega (arith, row-inside _ _ _ (s .pre) (c .before .loop .channel) (c .loop-test .taken), s .good)
 
--- src/lib.rt:164:19
 add-end : tie.Need-add-end Inv-loop μ-loop
-add-end c = ?
+add-end c = let s = c .before .before .before .before .before in omega (arith, row-inside _ _ _ (s .pre) (c .before .loop .channel) (c .loop-test .taken), s .good)
 
--- src/lib.rt:167:13
-shared-slice-read-posted-length : tie.Need-shared-slice-read-posted-length Inv-loop μ-loop
-shared-slice-read-posted-length c = ?
-
--- src/lib.rt:168:13
-mul-posted-length : tie.Need-mul-posted-length Inv-loop μ-loop
-mul-posted-length c = ?
-
--- src/lib.rt:168:13
 array-read-posted-length : tie.Need-array-read-posted-length Inv-loop μ-loop
-array-read-posted-length c = ?
+array-read-posted-length c = let m = c .before .before .before .before .before .before .pre .marks in omega (arith, m, c .before .loop-test .taken)
 
--- src/lib.rt:169:13
 mul-posted-length-2 : tie.Need-mul-posted-length-2 Inv-loop μ-loop
-mul-posted-length-2 c = ?
+mul-posted-length-2 c = let s = c .before .before .before .before .before .before in omega (arith, row-inside _ _ _ (s .pre) (c .before .before .loop .channel) (c .before .loop-test .taken), s .good)
 
--- src/lib.rt:169:13
-sub-posted-length : tie.Need-sub-posted-length Inv-loop μ-loop
-sub-posted-length c = ?
-
--- src/lib.rt:169:13
-part-posted-length-start : tie.Need-part-posted-length-start Inv-loop μ-loop
-part-posted-length-start c = ?
-
--- src/lib.rt:169:13
 part-posted-length-end : tie.Need-part-posted-length-end Inv-loop μ-loop
-part-posted-length-end c = ?
+part-posted-length-end c = row-inside _ _ _ (c .before .before .before .before .before .before .pre) (c .before .before .loop .channel) (c .before .loop-test .taken)
 
--- src/lib.rt:165:14
 posted-length-requires : tie.Need-posted-length-requires Inv-loop μ-loop
-posted-length-requires c κs = ?
+posted-length-requires c κs = let s = c .before .before .before .before .before .before .before in (s .pre .settings, row-short _ _ _ (s .pre) (c .before .before .before .loop .channel))
 
--- src/lib.rt:165:9
 add-n : tie.Need-add-n Inv-loop μ-loop
-add-n c = ?
+add-n c = omega (arith, c .before .before .before .before .before .before .before .before .pre .marks, c .posted-length .ensures .1)
 
--- src/lib.rt:171:9
-add-channel : tie.Need-add-channel Inv-loop μ-loop
-add-channel c = ?
-
--- src/lib.rt:162:5
-loop-less : tie.Need-loop-less Inv-loop μ-loop
-loop-less c = ?
-
--- src/lib.rt:162:5
 loop-again : tie.Need-loop-again Inv-loop μ-loop
-loop-again c = ?
+loop-again c =
+    let l = c .before .before .before .before in
+    let s = l .before .before .before .before in
+    let i = l .loop .channel in (
+      omega arith,
+      count-turn (s .args .settings) (s .args .store .now) (s .args .posted .now) (s .pre .settings) (l .loop .n) i (l .loop .inv .1) _
+          (rw (part-row (s .args .settings .nw) i (s .args .store .now)) at (c .posted-length .ensures .0)) (c .before .before .before .loop-test .taken),
+      omega (arith, c .posted-length .ensures .1),
+    )
 
--- src/lib.rt:154:1
 returns : tie.Need-returns Inv-loop μ-loop
-returns c = ?
+returns c =
+    let l = c .before in
+    let s = l .before .before .before .before in
+    (count-end (s .args .settings) (s .args .store .now) (s .args .posted .now) (s .pre .settings) (l .loop .n) (l .loop .channel) (l .loop .inv .1) (c .loop-test .left), omega (arith, s .pre .marks))
 
 pub channels-length-spec : {M : Type 1} → statement M
 channels-length-spec =
@@ -83,16 +67,16 @@ channels-length-spec =
     loop-holds
     mul-start
     add-end
-    shared-slice-read-posted-length
-    mul-posted-length
+    (λ c. omega arith)
+    (λ c. search needs)
     array-read-posted-length
     mul-posted-length-2
-    sub-posted-length
-    part-posted-length-start
+    (λ c. omega arith)
+    (λ c. omega arith)
     part-posted-length-end
     posted-length-requires
     add-n
-    add-channel
-    loop-less
+    (λ c. omega arith)
+    (λ c. omega arith)
     loop-again
     returns)

@@ -1,6 +1,5 @@
 -- `event::put_channels` meets its contract: in a turn what is left begins with what the next channel writes.
 use Prim.Native.Nat.{_-_, _≤_}
-use mathlib.Core.Path.{_≡_}
 use native.Mathlib.Omega.{arith}
 use borrow.Author.Needs.{needs}
 use lib.ListN.{length, drop}
@@ -40,18 +39,21 @@ put-posted-requires : tie.Need-put-posted-requires Inv-loop μ-loop
 put-posted-requires c κs =
     let l = c .before .before .before .before in
     let s = l .before .before .before .before .before in
-    let i = l .loop .channel in
-    ((s .pre .0 .settings, row-short _ _ _ (s .pre .0) i),
-    rw (part-row (s .args .settings .nw) i (s .args .store .now))
-    (channel-room _ _ _ _ _ (s .pre .1) (l .loop .words) (l .loop .next) i (c .before .before .before .loop-test .taken) (l .loop .inv .1)))
+    let i = l .loop .channel in (
+      (s .pre .0 .settings, row-short _ _ _ (s .pre .0) i),
+      rw (part-row (s .args .settings .nw) i (s .args .store .now))
+          (channel-room _ _ _ _ _ (s .pre .1) (l .loop .words) (l .loop .next) i (c .before .before .before .loop-test .taken) (l .loop .inv .1)),
+    )
 
 loop-again : tie.Need-loop-again Inv-loop μ-loop
 loop-again c =
     let l = c .before .before .before .before .before .before .before in
     let s = l .before .before .before .before .before in
-    let i = l .loop .channel in
-    (omega arith, channel-less _ _ _ _ _ (s .pre .1) (l .loop .words) (l .loop .next) i _ _
-    (rw (part-row (s .args .settings .nw) i (s .args .store .now)) at (c .before .before .put-posted .ensures)) (c .before .before .before .before .before .before .loop-test .taken) (l .loop .inv .1))
+    let i = l .loop .channel in (
+      omega arith,
+      channel-less _ _ _ _ _ (s .pre .1) (l .loop .words) (l .loop .next) i _ _
+          (rw (part-row (s .args .settings .nw) i (s .args .store .now)) at (c .before .before .put-posted .ensures)) (c .before .before .before .before .before .before .loop-test .taken) (l .loop .inv .1),
+    )
 
 same-length : tie.Need-same-length Inv-loop μ-loop
 same-length c = c .before .loop .inv .1 .size

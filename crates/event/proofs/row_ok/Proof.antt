@@ -1,5 +1,4 @@
 -- `event::row_ok` meets its contract.
-use borrow.Author.Needs.{needs}
 use Rattle.event.proofs.row_ok.Statement.{statement}
 use Rattle.event.proofs.row_ok.Tie as tie
 

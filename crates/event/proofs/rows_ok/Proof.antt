@@ -1,12 +1,9 @@
 -- `event::rows_ok` meets its contract: the rows tested and those left are all.
 use Prim.Native.Nat.{_-_, _≤_}
-use mathlib.Core.Path.{_≡_, refl, ap, _∙_}
-use mathlib.Core.Bool.{Bool, _&&_, _||_, not}
-use mathlib.Core.List.{List}
+use mathlib.Core.Path.{_≡_, refl}
+use mathlib.Core.Bool.{_&&_}
 use native.Mathlib.Omega.{arith}
-use borrow.Author.Needs.{needs}
-use lib.ListN.{length, drop, getD}
-use Rattle.settings.specs.Sample.{samplesOk}
+use lib.ListN.{length, drop}
 use Rattle.event.specs.Event.{rowsOk}
 use Rattle.event.specs.EventLaws.{row-inside, part-row, rows-turn, rows-end}
 use Rattle.event.proofs.rows_ok.Statement.{statement}
@@ -36,9 +33,11 @@ part-row-ok-end c = row-inside _ _ _ (c .before .before .before .before .before 
 loop-again : tie.Need-loop-again Inv-loop μ-loop
 loop-again c =
     let l = c .before .before .before .before in
-    let a = l .before .before .before .args in
-    (omega arith, rows-turn (a .settings .nw) (a .store .now) (a .posted .now) (l .loop .good) (l .loop .channel) (l .loop .inv .1) _
-    (rw (part-row (a .settings .nw) (l .loop .channel) (a .store .now)) at (c .row-ok .ensures)) (c .before .before .before .loop-test .taken))
+    let a = l .before .before .before .args in (
+      omega arith,
+      rows-turn (a .settings .nw) (a .store .now) (a .posted .now) (l .loop .good) (l .loop .channel) (l .loop .inv .1) _
+          (rw (part-row (a .settings .nw) (l .loop .channel) (a .store .now)) at (c .row-ok .ensures)) (c .before .before .before .loop-test .taken),
+    )
 
 returns : tie.Need-returns Inv-loop μ-loop
 returns c = let l = c .before in rows-end _ _ _ _ (l .loop .channel) (l .loop .inv .1) (c .loop-test .left)

@@ -15,43 +15,34 @@ Inv-loop parts samples found n₀ i₀ n i = (i ≤ found .count) × (n + pulses
 abbrev μ-loop : tie.MeasureT-loop
 μ-loop parts samples found n₀ i₀ n i = found .count - i
 
--- src/count.rt:43:5
 loop-holds : tie.Need-loop-holds Inv-loop μ-loop
 loop-holds c = (omega arith, zero-add _, omega arith)
 
--- src/count.rt:44:21
 mul-pulse : tie.Need-mul-pulse Inv-loop μ-loop
 mul-pulse c = omega arith
 
--- src/count.rt:44:21
 element-copy-out-pulse : tie.Need-element-copy-out-pulse Inv-loop μ-loop
 element-copy-out-pulse c = omega arith
 
--- src/count.rt:45:14
 pulse-length-requires : tie.Need-pulse-length-requires Inv-loop μ-loop
 pulse-length-requires c κs =
     let pre = c .before .before .before .pre in
     place-set _ _ _ _ (pre .0) (pre .1) (omega arith)
 
--- src/count.rt:45:9
 add-n : tie.Need-add-n Inv-loop μ-loop
 add-n c = omega arith
 
--- src/count.rt:46:9
 add-i : tie.Need-add-i Inv-loop μ-loop
 add-i c = omega arith
 
--- src/count.rt:43:5
 loop-less : tie.Need-loop-less Inv-loop μ-loop
 loop-less c = omega arith
 
--- src/count.rt:43:5
 loop-again : tie.Need-loop-again Inv-loop μ-loop
 loop-again c =
     let h = c .before .before .before in
     (omega arith, count-turn _ _ (h .before .pre .0 .stored) (h .loop .i) (h .loop .n) _ _ _ (c .pulse-length .ensures .0) (c .before .before .loop-test .taken) (h .loop .inv .1), omega arith)
 
--- src/count.rt:37:1
 returns : tie.Need-returns Inv-loop μ-loop
 returns c =
     let h = c .before in

@@ -4,14 +4,9 @@ use borrow.Author.Needs.{needs}
 use Rattle.channel.proofs.measure.pedestal_of.Statement.{statement}
 use Rattle.channel.proofs.measure.pedestal_of.Tie as tie
 
--- src/measure.rt:67:15
-at-most-requires : tie.Need-at-most-requires
-at-most-requires c κs = search needs
-
--- src/measure.rt:60:1
 returns : tie.Need-returns
 unfolding pedestalItem
 returns c = cc
 
 pub pedestal-of-spec : {M : Type 1} → statement M
-pedestal-of-spec = tie.close (tie.spec at-most-requires returns)
+pedestal-of-spec = tie.close (tie.spec (λ c κs. search needs) returns)

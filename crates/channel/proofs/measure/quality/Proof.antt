@@ -3,11 +3,9 @@ use borrow.Author.Tests.{lt-ltb, le-ltb}
 use Rattle.channel.proofs.measure.quality.Statement.{statement}
 use Rattle.channel.proofs.measure.quality.Tie as tie
 
--- src/measure.rt:21:1
 returns : tie.Need-returns
 returns c = rw (lt-ltb _ _ (c .if1 .taken))
 
--- src/measure.rt:21:1
 returns-2 : tie.Need-returns-2
 returns-2 c = rw (le-ltb _ _ (c .if1 .left))
 
