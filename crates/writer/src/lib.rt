@@ -1,4 +1,12 @@
 // One event, one store: the state of a run and the six calls that change it.
+ghost use mathlib.Core.Path.{_≡_};
+ghost use Rattle.writer.specs.State.{idle, blank};
+ghost use Rattle.writer.specs.Calls.{SetUpSays, OpenEventSays, PostSays};
+
+mod put;
+mod ranges;
+mod refuse;
+
 use settings::Refusal;
 use settings::Settings;
 
@@ -33,4 +41,106 @@ pub struct Finished {
     pub refusal: Refusal,
     pub state: State,
     pub length: usize,
+}
+
+// No block is open: all but the settings is zero.
+fn idle_state(settings: Settings) -> State
+    ensures { λ r. ⌜ r ≡ idle settings ⌝ }
+{
+    State {
+        settings,
+        phase: Phase::Idle,
+        block: 0,
+        events: 0,
+        event: 0,
+        time: 0,
+        posted: [false; 16],
+        closed: 0,
+        words: 0,
+    }
+}
+
+// What stands for no state: every call refuses it, since its settings are out of range.
+fn no_state() -> State
+    ensures { λ r. ⌜ r ≡ blank ⌝ }
+{
+    idle_state(Settings {
+        mode: 0,
+        nw: 0,
+        pl: 0,
+        nsb: 0,
+        nsa: 0,
+        limit: 0,
+        thresholds: [0; 16],
+        slot: 0,
+        parameters: false,
+        times: 0,
+        multiple: 0,
+    })
+}
+
+// A state for those settings, idle.
+pub fn set_up(settings: Settings) -> Answer
+    ensures { λ r. ⌜ SetUpSays settings r ⌝ }
+{
+    if settings::in_range(settings) {
+        let state = idle_state(settings);
+        return Answer {
+            refusal: Refusal::None,
+            state,
+        };
+    }
+    let state = no_state();
+    Answer {
+        refusal: Refusal::Setting,
+        state,
+    }
+}
+
+// Opens an event: writes nothing.
+pub fn open_event(state: State, number: u32, time: u64) -> Answer
+    ensures { λ r. ⌜ OpenEventSays state number time r ⌝ }
+{
+    let refusal = refuse::open_event_check(state, number, time);
+    if settings::accepted(refusal) {
+        let settings = state.settings;
+        let posted = state.posted;
+        let opened = State {
+            settings,
+            phase: Phase::Event,
+            block: state.block,
+            events: state.events,
+            event: number,
+            time,
+            posted,
+            closed: state.closed,
+            words: state.words,
+        };
+        return Answer {
+            refusal,
+            state: opened,
+        };
+    }
+    Answer { refusal, state }
+}
+
+// Posts a channel: its window is copied into its row of the lent store, and nowhere else.
+pub fn post(state: State, store: &mut [u16], channel: usize, window: &[u16]) -> Answer
+    ensures { λ r. ⌜ PostSays state (now (store .entry)) channel (now (window .entry)) r (now (store .exit)) ⌝ }
+{
+    let refusal = refuse::post_check(state, store.len(), channel, window);
+    if settings::accepted(refusal) {
+        let settings = state.settings;
+        let nw = settings.nw;
+        let start = channel * nw;
+        let end = start + nw;
+        put::fill(&mut store[start..end], window);
+        let mut marked = state;
+        marked.posted[channel] = true;
+        return Answer {
+            refusal,
+            state: marked,
+        };
+    }
+    Answer { refusal, state }
 }
