@@ -1,18 +1,15 @@
 -- What an accepted call has, by name: of each table, and what is left where it accepts and where it refuses. Assumes nothing.
 use Prim.Native.Nat.{ℕ, _+_, _*_, _≤_, _<_}
-use mathlib.Core.Path.{_≡_, refl, sym, ap, _∙_}
+use mathlib.Core.Path.{_≡_, refl}
 use mathlib.Core.Bool.{Bool, true, false, _||_, true≢false}
 use mathlib.Core.List.{List}
 use native.Mathlib.Nat.{suc-mul, mul-le-mul-right}
 use native.Mathlib.Omega.{arith}
-use borrow.Author.Tests.{ltb-true, ltb-false, eqb-true, not-false}
-use lib.Dec.{eqb}
+use borrow.Author.Tests.{ltb-true, ltb-false, eqb-true, ne-eqb, not-false}
 use lib.ListN.{length, getD}
 use Rattle.ground.specs.TestsLaws.{none}
-use Rattle.settings.specs.declared.Refusal.{Refusal}
 use Rattle.settings.specs.declared.Settings.{Settings}
 use Rattle.settings.specs.Ranges.{settingsOk}
-use Rattle.settings.specs.Refusal.{numberOf}
 use Rattle.settings.specs.Sample.{samplesOk}
 use Rattle.writer.specs.declared.State.{State}
 use Rattle.writer.specs.State.{blockOk, eventOk, stateOk, isIdle, isBlock, isEvent}
@@ -20,15 +17,11 @@ use Rattle.writer.specs.Calls.{ifAccepted, setUpNumber, blockItems, open
 
 -- ---- accepted or not
 
--- the number tests as the code's answer of `accepted` does
-pub tested : (r : Refusal) (n : ℕ) (b t : Bool) → numberOf r ≡ n → b ≡ eqb (numberOf r) 0 → b ≡ t → eqb n 0 ≡ t
-tested r n b t e f g = ap (λ (k : ℕ). eqb k 0) (sym e) ∙ sym f ∙ g
+pub done : {A : Type 0} {n : ℕ} (new old : A) → n ≡ 0 → ifAccepted n new old ≡ new
+done new old e = rw e
 
-pub done : {A : Type 0} (n : ℕ) (new old : A) → eqb n 0 ≡ true → ifAccepted n new old ≡ new
-done n new old e = rw e
-
-pub refused : {A : Type 0} (n : ℕ) (new old : A) → eqb n 0 ≡ false → ifAccepted n new old ≡ old
-refused n new old e = rw e
+pub refused : {A : Type 0} (n : ℕ) (new old : A) → (n ≡ 0 → ⊥) → ifAccepted n new old ≡ old
+refused n new old e = rw (ne-eqb n 0 e)
 
 -- neither of two
 neither : (a b : Bool) → a || b ≡ false → (a ≡ false) × (b ≡ false)

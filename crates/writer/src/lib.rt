@@ -1,7 +1,7 @@
 // One event, one store: the state of a run and the six calls that change it.
 ghost use mathlib.Core.Path.{_≡_};
 ghost use Rattle.writer.specs.State.{idle, blank};
-ghost use Rattle.writer.specs.Calls.{SetUpSays, OpenEventSays, PostSays};
+ghost use Rattle.writer.specs.Calls.{SetUpSays, OpenBlockSays, OpenEventSays, PostSays, FinishSays};
 
 mod put;
 mod ranges;
@@ -97,6 +97,33 @@ pub fn set_up(settings: Settings) -> Answer
     }
 }
 
+// Opens a block: writes its header and any parameters word behind the words already counted, which are none.
+pub fn open_block(state: State, words: &mut [u32], number: u32, events: u32) -> Answer
+    ensures { λ r. ⌜ OpenBlockSays state (now (words .entry)) number events r (now (words .exit)) ⌝ }
+{
+    let refusal = refuse::open_block_check(state, words.len(), number, events);
+    if settings::accepted(refusal) {
+        let settings = state.settings;
+        let next = put::put_block(words, state.words, settings, number, events);
+        let opened = State {
+            settings,
+            phase: Phase::Block,
+            block: number,
+            events,
+            event: 0,
+            time: 0,
+            posted: [false; 16],
+            closed: 0,
+            words: next,
+        };
+        return Answer {
+            refusal,
+            state: opened,
+        };
+    }
+    Answer { refusal, state }
+}
+
 // Opens an event: writes nothing.
 pub fn open_event(state: State, number: u32, time: u64) -> Answer
     ensures { λ r. ⌜ OpenEventSays state number time r ⌝ }
@@ -143,4 +170,26 @@ pub fn post(state: State, store: &mut [u16], channel: usize, window: &[u16]) -> 
         };
     }
     Answer { refusal, state }
+}
+
+// Finishes the block: writes the trailer and the fewest fillers, and answers the block's length.
+pub fn finish(state: State, words: &mut [u32]) -> Finished
+    ensures { λ r. ⌜ FinishSays state (now (words .entry)) r (now (words .exit)) ⌝ }
+{
+    let refusal = refuse::finish_check(state, words.len());
+    if settings::accepted(refusal) {
+        let settings = state.settings;
+        let length = put::put_end(words, state.words, settings);
+        let idle = idle_state(settings);
+        return Finished {
+            refusal,
+            state: idle,
+            length,
+        };
+    }
+    Finished {
+        refusal,
+        state,
+        length: 0,
+    }
 }

@@ -5,12 +5,16 @@ ghost use Prim.Native.Nat.{_+_, _*_};
 ghost use lib.Dec.{ltb};
 ghost use lib.ListN.{getD};
 ghost use Rattle.settings.specs.Refusal.{numberOf};
-ghost use Rattle.writer.specs.Calls.{openEventNumber, postNumber};
+ghost use Rattle.writer.specs.Calls.{openBlockNumber, openEventNumber, postNumber, finishNumber};
 ghost use Rattle.writer.specs.Order.{firstWrong};
 use crate::State;
+use crate::put::end_words;
+use crate::ranges::block_ok;
 use crate::ranges::event_ok;
+use crate::ranges::head_words;
 use crate::ranges::is_block;
 use crate::ranges::is_event;
+use crate::ranges::is_idle;
 use crate::ranges::state_ok;
 use settings::Refusal;
 
@@ -78,6 +82,39 @@ fn is_posted(posted: &[bool], channel: usize) -> bool
     false
 }
 
+// Fewer than `count` words are left behind those already counted. The difference cannot wrap, whatever a forged state says.
+fn room_short(room: usize, words: usize, count: usize) -> bool
+    ensures { λ r. ⌜ r ≡ ltb room (words + count) ⌝ }
+{
+    if room < words {
+        return true;
+    }
+    room - words < count
+}
+
+pub(crate) fn open_block_check(s: State, room: usize, number: u32, events: u32) -> Refusal
+    ensures { λ r. ⌜ numberOf r ≡ openBlockNumber s room number events ⌝ }
+{
+    let phase = s.phase;
+    let settings = s.settings;
+    let good = state_ok(s);
+    let idle = is_idle(phase);
+    let named = block_ok(number, events);
+    let head = head_words(settings.parameters);
+    let short = room_short(room, s.words, head);
+    first_wrong(Wrong {
+        state: !good,
+        turn: !idle,
+        number: !named,
+        channel: false,
+        length: false,
+        posted: false,
+        store: false,
+        sample: false,
+        room: short,
+    })
+}
+
 pub(crate) fn open_event_check(s: State, number: u32, time: u64) -> Refusal
     ensures { λ r. ⌜ numberOf r ≡ openEventNumber s number time ⌝ }
 {
@@ -119,5 +156,29 @@ pub(crate) fn post_check(s: State, room: usize, channel: usize, window: &[u16]) 
         store: short,
         sample: !samples,
         room: false,
+    })
+}
+
+pub(crate) fn finish_check(s: State, room: usize) -> Refusal
+    ensures { λ r. ⌜ numberOf r ≡ finishNumber s room ⌝ }
+{
+    if !state_ok(s) {
+        return Refusal::State;
+    }
+    let phase = s.phase;
+    let settings = s.settings;
+    let block = is_block(phase);
+    let end = end_words(settings.multiple, s.words);
+    let short = room_short(room, s.words, end);
+    first_wrong(Wrong {
+        state: false,
+        turn: !block | (s.closed != s.events),
+        number: false,
+        channel: false,
+        length: false,
+        posted: false,
+        store: false,
+        sample: false,
+        room: short,
     })
 }

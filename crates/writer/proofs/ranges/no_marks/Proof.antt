@@ -5,7 +5,7 @@ use native.Mathlib.Omega.{arith}
 use borrow.Author.Needs.{needs}
 use lib.ListN.{length, drop, drop-of-length-le}
 use Rattle.writer.specs.State.{noMarks}
-use Rattle.writer.specs.StateLaws.{noMarks-step}
+use Rattle.writer.specs.CodeLaws.{noMarks-step}
 use Rattle.writer.proofs.ranges.no_marks.Statement.{statement}
 use Rattle.writer.proofs.ranges.no_marks.Tie as tie
 

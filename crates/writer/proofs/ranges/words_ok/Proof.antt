@@ -2,7 +2,7 @@
 use native.Mathlib.Omega.{arith}
 use borrow.Author.Needs.{needs}
 use Rattle.writer.specs.State.{mostEvent, wordsOk}
-use Rattle.writer.specs.StateLaws.{words-fit, head-le}
+use Rattle.writer.specs.CodeLaws.{words-fit, head-le}
 use Rattle.writer.proofs.ranges.words_ok.Statement.{statement}
 use Rattle.writer.proofs.ranges.words_ok.Tie as tie
 

@@ -1,7 +1,7 @@
 -- `writer::refuse::store_short` meets its contract: floor (room / 16) < nw is room < 16 x nw. Assumes nothing.
 use Prim.Native.Nat.{_*_, _/_}
 use native.Mathlib.Omega.{arith}
-use Rattle.writer.specs.OrderLaws.{same-test}
+use Rattle.writer.specs.CodeLaws.{same-test}
 use Rattle.writer.proofs.refuse.store_short.Statement.{statement}
 use Rattle.writer.proofs.refuse.store_short.Tie as tie
 
