@@ -1,4 +1,12 @@
 // One event, one store: the state of a run and the six calls that change it.
+ghost use mathlib.Core.Path.{_≡_};
+ghost use Rattle.writer.specs.State.{idle, blank};
+ghost use Rattle.writer.specs.Calls.{SetUpSays, OpenBlockSays, OpenEventSays, PostSays, FinishSays};
+
+mod put;
+mod ranges;
+mod refuse;
+
 use settings::Refusal;
 use settings::Settings;
 
@@ -33,4 +41,155 @@ pub struct Finished {
     pub refusal: Refusal,
     pub state: State,
     pub length: usize,
+}
+
+// No block is open: all but the settings is zero.
+fn idle_state(settings: Settings) -> State
+    ensures { λ r. ⌜ r ≡ idle settings ⌝ }
+{
+    State {
+        settings,
+        phase: Phase::Idle,
+        block: 0,
+        events: 0,
+        event: 0,
+        time: 0,
+        posted: [false; 16],
+        closed: 0,
+        words: 0,
+    }
+}
+
+// What stands for no state: every call refuses it, since its settings are out of range.
+fn no_state() -> State
+    ensures { λ r. ⌜ r ≡ blank ⌝ }
+{
+    idle_state(Settings {
+        mode: 0,
+        nw: 0,
+        pl: 0,
+        nsb: 0,
+        nsa: 0,
+        limit: 0,
+        thresholds: [0; 16],
+        slot: 0,
+        parameters: false,
+        times: 0,
+        multiple: 0,
+    })
+}
+
+// A state for those settings, idle.
+pub fn set_up(settings: Settings) -> Answer
+    ensures { λ r. ⌜ SetUpSays settings r ⌝ }
+{
+    if settings::in_range(settings) {
+        let state = idle_state(settings);
+        return Answer {
+            refusal: Refusal::None,
+            state,
+        };
+    }
+    let state = no_state();
+    Answer {
+        refusal: Refusal::Setting,
+        state,
+    }
+}
+
+// Opens a block: writes its header and any parameters word behind the words already counted, which are none.
+pub fn open_block(state: State, words: &mut [u32], number: u32, events: u32) -> Answer
+    ensures { λ r. ⌜ OpenBlockSays state (now (words .entry)) number events r (now (words .exit)) ⌝ }
+{
+    let refusal = refuse::open_block_check(state, words.len(), number, events);
+    if settings::accepted(refusal) {
+        let settings = state.settings;
+        let next = put::put_block(words, state.words, settings, number, events);
+        let opened = State {
+            settings,
+            phase: Phase::Block,
+            block: number,
+            events,
+            event: 0,
+            time: 0,
+            posted: [false; 16],
+            closed: 0,
+            words: next,
+        };
+        return Answer {
+            refusal,
+            state: opened,
+        };
+    }
+    Answer { refusal, state }
+}
+
+// Opens an event: writes nothing.
+pub fn open_event(state: State, number: u32, time: u64) -> Answer
+    ensures { λ r. ⌜ OpenEventSays state number time r ⌝ }
+{
+    let refusal = refuse::open_event_check(state, number, time);
+    if settings::accepted(refusal) {
+        let settings = state.settings;
+        let posted = state.posted;
+        let opened = State {
+            settings,
+            phase: Phase::Event,
+            block: state.block,
+            events: state.events,
+            event: number,
+            time,
+            posted,
+            closed: state.closed,
+            words: state.words,
+        };
+        return Answer {
+            refusal,
+            state: opened,
+        };
+    }
+    Answer { refusal, state }
+}
+
+// Posts a channel: its window is copied into its row of the lent store, and nowhere else.
+pub fn post(state: State, store: &mut [u16], channel: usize, window: &[u16]) -> Answer
+    ensures { λ r. ⌜ PostSays state (now (store .entry)) channel (now (window .entry)) r (now (store .exit)) ⌝ }
+{
+    let refusal = refuse::post_check(state, store.len(), channel, window);
+    if settings::accepted(refusal) {
+        let settings = state.settings;
+        let nw = settings.nw;
+        let start = channel * nw;
+        let end = start + nw;
+        put::fill(&mut store[start..end], window);
+        let mut marked = state;
+        marked.posted[channel] = true;
+        return Answer {
+            refusal,
+            state: marked,
+        };
+    }
+    Answer { refusal, state }
+}
+
+// Finishes the block: writes the trailer and the fewest fillers, and answers the block's length.
+pub fn finish(state: State, words: &mut [u32]) -> Finished
+    ensures { λ r. ⌜ FinishSays state (now (words .entry)) r (now (words .exit)) ⌝ }
+{
+    let refusal = refuse::finish_check(state, words.len());
+    if settings::accepted(refusal) {
+        let settings = state.settings;
+        let length = put::put_end(words, state.words, settings);
+        let idle = idle_state(settings);
+        return Finished {
+            refusal,
+            state: idle,
+            length,
+        };
+    }
+    Finished {
+        refusal,
+        state,
+        length: 0,
+    }
 }

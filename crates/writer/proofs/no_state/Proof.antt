@@ -1,0 +1,12 @@
+-- `writer::no_state` meets its contract. Assumes nothing.
+use borrow.Author.Needs.{needs}
+use Rattle.writer.specs.State.{blank}
+use Rattle.writer.proofs.no_state.Statement.{statement}
+use Rattle.writer.proofs.no_state.Tie as tie
+
+returns : tie.Need-returns
+unfolding blank
+returns c = c .idle-state .ensures
+
+pub no-state-spec : {M : Type 1} → statement M
+no-state-spec = tie.close (tie.spec (λ c κs. search needs) returns)

@@ -1,0 +1,21 @@
+-- `writer::refuse::room_short` meets its contract. Assumes nothing.
+use Prim.Native.Nat.{_+_, _-_}
+use mathlib.Core.Path.{sym}
+use native.Mathlib.Omega.{arith}
+use borrow.Author.Tests.{lt-ltb}
+use Rattle.writer.specs.CodeLaws.{same-test}
+use Rattle.writer.proofs.refuse.room_short.Statement.{statement}
+use Rattle.writer.proofs.refuse.room_short.Tie as tie
+
+returns : tie.Need-returns
+returns c =
+    let a = c .before .args in
+    sym (lt-ltb (a .room) (a .words + a .count) (omega arith))
+
+returns-2 : tie.Need-returns-2
+returns-2 c =
+    let a = c .before .args in
+    same-test (a .room - a .words) (a .count) (a .room) (a .words + a .count) (λ h. omega arith) (λ h. omega arith)
+
+pub room-short-spec : {M : Type 1} → statement M
+room-short-spec = tie.close (tie.spec returns returns-2)
