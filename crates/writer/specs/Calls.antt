@@ -1,9 +1,9 @@
 -- The six calls: each with its refusal table, what it writes, and what it leaves. Document 01, "One event, one store". Assumes nothing.
-use Prim.Native.Nat.{ℕ, _+_, _-_, _*_, _/_, _%_}
+use Prim.Native.Nat.{ℕ, _+_, _-_, _*_, _%_}
 use mathlib.Core.Path.{_≡_}
-use mathlib.Core.Bool.{Bool, true, false, not, cond, _&&_, _||_}
-use mathlib.Core.List.{List, [], _∷_, _++_}
-use lib.ListN.{length, getD, set, take, drop, replicate}
+use mathlib.Core.Bool.{Bool, true, false, not, cond, _||_}
+use mathlib.Core.List.{List, [], _∷_}
+use lib.ListN.{length, getD, set, replicate}
 use lib.Dec.{eqb, ltb}
 use Rattle.ground.specs.Splice.{splice}
 use Rattle.ground.specs.Tests.{firstOf}
@@ -14,7 +14,7 @@ use Rattle.settings.specs.Refusal.{numberOf}
 use Rattle.items.specs.Items.{wordsOf}
 use Rattle.items.specs.declared.Item.{Item}
 use Rattle.items.specs.declared.Item.the-variants as I
-use Rattle.channel.specs.Channel.{commonOf, channelItems}
+use Rattle.event.specs.Event.{rowsOk, eventItems}
 use Rattle.writer.specs.declared.State.{State}
 use Rattle.writer.specs.declared.Answer.{Answer}
 use Rattle.writer.specs.declared.Finished.{Finished}
@@ -109,33 +109,9 @@ pub record PostSays (s : State) (store : List ℕ) (c : ℕ) (w : List ℕ) (r :
 
 -- ---- close the event
 
--- row c of the store
-unfoldable pub row : ℕ → ℕ → List ℕ → List ℕ
-row n c store = take n (drop (c * n) store)
-
--- "a sample over 8,191 .. in a posted channel's row of the store then lent"
-unfoldable pub rowsOk : ℕ → List ℕ → ℕ → List Bool → Bool
-rowsOk n store c [] = true
-rowsOk n store c (m ∷ ms) = (not m || samplesOk (row n c store)) && rowsOk n store (c + 1) ms
-
--- "26-24 time bits 26-24, 23-0 time bits 23-0", "23-0 time bits 47-24"
-unfoldable pub timeItems : ℕ → ℕ → List Item
-timeItems times time =
-    cond (eqb times 0) []
-    (I.Clock (record { middle = time / 16777216 % 8; low = time % 16777216 })
-    ∷ cond (eqb times 2) (I.ClockHigh (record { high = time / 16777216 }) ∷ []) [])
-
--- "then words for posted channels only", from channel c on, rising
-unfoldable pub channelsItems : Settings → List ℕ → ℕ → List Bool → List Item
-channelsItems s store c [] = []
-channelsItems s store c (m ∷ ms) =
-    cond m (channelItems (commonOf s) (getD (s .thresholds) c 0) c (row (s .nw) c store)) [] ++ channelsItems s store (c + 1) ms
-
--- "Closing writes event header, time words, then words for posted channels only"
-unfoldable pub eventItems : State → List ℕ → List Item
-eventItems s store =
-    I.Event (record { slot = s .settings .slot; number = s .event })
-    ∷ (timeItems (s .settings .times) (s .time) ++ channelsItems (s .settings) store 0 (s .posted))
+-- what closing writes: "event header, time words, then words for posted channels only"
+abbrev pub closingItems : State → List ℕ → List Item
+closingItems s store = eventItems (s .settings) (s .event) (s .time) (s .posted) store
 
 unfoldable pub closeTable : State → List ℕ → ℕ → List (ℕ × Bool)
 closeTable s store room =
@@ -143,7 +119,7 @@ closeTable s store room =
     ∷ (7, not (isEvent (s .phase)))
     ∷ (2, ltb (length store) (16 * s .settings .nw))
     ∷ (3, not (rowsOk (s .settings .nw) store 0 (s .posted)))
-    ∷ (9, ltb room (s .words + length (eventItems s store)))
+    ∷ (9, ltb room (s .words + length (closingItems s store)))
     ∷ []
 
 unfoldable pub closeNumber : State → List ℕ → ℕ → ℕ
@@ -152,8 +128,8 @@ closeNumber s store room = firstOf (closeTable s store room)
 -- "after the words already there; the rest of the buffer stays"
 pub record CloseSays (s : State) (store words : List ℕ) (r : Answer) (words′ : List ℕ) : Type 0 where
   pub refusal : numberOf (r .refusal) ≡ closeNumber s store (length words)
-  pub state : r .state ≡ ifAccepted (closeNumber s store (length words)) (withClosed s (s .words + length (eventItems s store))) s
-  pub buffer : words′ ≡ ifAccepted (closeNumber s store (length words)) (splice words (s .words) (wordsOf (eventItems s store))) words
+  pub state : r .state ≡ ifAccepted (closeNumber s store (length words)) (withClosed s (s .words + length (closingItems s store))) s
+  pub buffer : words′ ≡ ifAccepted (closeNumber s store (length words)) (splice words (s .words) (wordsOf (closingItems s store))) words
 
 -- ---- finish the block
 

@@ -11,9 +11,10 @@ use Rattle.ground.specs.TestsLaws.{none}
 use Rattle.settings.specs.declared.Settings.{Settings}
 use Rattle.settings.specs.Ranges.{settingsOk}
 use Rattle.settings.specs.Sample.{samplesOk}
+use Rattle.event.specs.Event.{rowsOk}
 use Rattle.writer.specs.declared.State.{State}
 use Rattle.writer.specs.State.{blockOk, eventOk, stateOk, isIdle, isBlock, isEvent}
-use Rattle.writer.specs.Calls.{ifAccepted, setUpNumber, blockItems, openBlockTable, openBlockNumber, openEventTable, openEventNumber, rowStart, postTable, postNumber, rowsOk, eventItems, closeTable, closeNumber, endItems, finishTable, finishNumber}
+use Rattle.writer.specs.Calls.{ifAccepted, setUpNumber, blockItems, openBlockTable, openBlockNumber, openEventTable, openEventNumber, rowStart, postTable, postNumber, closingItems, closeTable, closeNumber, endItems, finishTable, finishNumber}
 
 -- ---- accepted or not
 
@@ -115,7 +116,7 @@ pub record CloseAccepted (s : State) (store : List ℕ) (room : ℕ) : Type 0 wh
   pub turn : isEvent (s .phase) ≡ true
   pub wide : 16 * s .settings .nw ≤ length store
   pub samples : rowsOk (s .settings .nw) store 0 (s .posted) ≡ true
-  pub fit : s .words + length (eventItems s store) ≤ room
+  pub fit : s .words + length (closingItems s store) ≤ room
 
 pub close-accepted : (s : State) (store : List ℕ) (room : ℕ) → closeNumber s store room ≡ 0 → CloseAccepted s store room
 unfolding closeNumber closeTable
