@@ -1,7 +1,7 @@
 // One event, one store: the state of a run and the six calls that change it.
 ghost use mathlib.Core.Path.{_≡_};
 ghost use Rattle.writer.specs.State.{idle, blank};
-ghost use Rattle.writer.specs.Calls.{SetUpSays, OpenBlockSays, OpenEventSays, PostSays, FinishSays};
+ghost use Rattle.writer.specs.Calls.{SetUpSays, OpenBlockSays, OpenEventSays, PostSays, CloseSays, FinishSays};
 
 mod put;
 mod ranges;
@@ -167,6 +167,42 @@ pub fn post(state: State, store: &mut [u16], channel: usize, window: &[u16]) -> 
         return Answer {
             refusal,
             state: marked,
+        };
+    }
+    Answer { refusal, state }
+}
+
+// Closes the event: writes its words behind those already there. All is checked before the first word is written.
+pub fn close(state: State, store: &[u16], words: &mut [u32]) -> Answer
+    ensures { λ r. ⌜ CloseSays state (now (store .entry)) (now (words .entry)) r (now (words .exit)) ⌝ }
+{
+    let refusal = refuse::close_check(state, store, words.len());
+    if settings::accepted(refusal) {
+        let settings = state.settings;
+        let posted = state.posted;
+        let next = event::put_event(
+            words,
+            state.words,
+            settings,
+            state.event,
+            state.time,
+            &posted,
+            store,
+        );
+        let closed = State {
+            settings,
+            phase: Phase::Block,
+            block: state.block,
+            events: state.events,
+            event: 0,
+            time: 0,
+            posted: [false; 16],
+            closed: state.closed + 1,
+            words: next,
+        };
+        return Answer {
+            refusal,
+            state: closed,
         };
     }
     Answer { refusal, state }

@@ -5,7 +5,8 @@ ghost use Prim.Native.Nat.{_+_, _*_};
 ghost use lib.Dec.{ltb};
 ghost use lib.ListN.{getD};
 ghost use Rattle.settings.specs.Refusal.{numberOf};
-ghost use Rattle.writer.specs.Calls.{openBlockNumber, openEventNumber, postNumber, finishNumber};
+ghost use Rattle.writer.specs.Calls.{openBlockNumber, openEventNumber, postNumber, closeNumber, finishNumber};
+ghost use Rattle.event.specs.Inner.{Lent, eventLength};
 ghost use Rattle.writer.specs.Order.{firstWrong};
 use crate::State;
 use crate::put::end_words;
@@ -17,6 +18,7 @@ use crate::ranges::is_event;
 use crate::ranges::is_idle;
 use crate::ranges::state_ok;
 use settings::Refusal;
+use settings::Settings;
 
 // What is wrong with a call, in the paper's order of refusals.
 pub(crate) struct Wrong {
@@ -181,4 +183,46 @@ pub(crate) fn finish_check(s: State, room: usize) -> Refusal
         sample: false,
         room: short,
     })
+}
+
+// Fewer words are left than the event takes. Where there is room for the longest event, nothing is counted.
+fn event_short(
+    settings: Settings,
+    posted: &[bool],
+    store: &[u16],
+    room: usize,
+    words: usize,
+) -> bool
+    requires { ⌜ Lent settings (now posted) (now store) ⌝ }
+    ensures { λ r. ⌜ r ≡ ltb room (words + eventLength settings (now (posted .entry)) (now (store .entry))) ⌝ }
+{
+    if !room_short(room, words, crate::ranges::MOST_EVENT) {
+        return false;
+    }
+    room_short(room, words, event::event_length(settings, posted, store))
+}
+
+// The rows are looked at only once the store is known to hold them.
+pub(crate) fn close_check(s: State, store: &[u16], room: usize) -> Refusal
+    ensures { λ r. ⌜ numberOf r ≡ closeNumber s (now (store .entry)) room ⌝ }
+{
+    let phase = s.phase;
+    let settings = s.settings;
+    let posted = s.posted;
+    if !state_ok(s) {
+        return Refusal::State;
+    }
+    if !is_event(phase) {
+        return Refusal::Turn;
+    }
+    if store_short(store.len(), settings.nw) {
+        return Refusal::Store;
+    }
+    if !event::rows_ok(settings, &posted, store) {
+        return Refusal::Sample;
+    }
+    if event_short(settings, &posted, store, room, s.words) {
+        return Refusal::Room;
+    }
+    Refusal::None
 }
