@@ -1,5 +1,5 @@
 -- How many words a block's head and its end are. Assumes nothing.
-use Prim.Native.Nat.{ℕ, zero, suc, _+_, _<_}
+use Prim.Native.Nat.{ℕ, zero, suc, _+_, _≤_, _<_}
 use mathlib.Core.Path.{_≡_, refl, ap, _∙_}
 use mathlib.Core.Bool.{Bool, true, false, cond, false≢true}
 use mathlib.Core.List.{List, [], _∷_}
@@ -8,6 +8,7 @@ use native.Mathlib.Numerals.{one-add}
 use native.Mathlib.Omega.{arith}
 use lib.ListN.{length, length-replicate}
 use Rattle.ground.specs.Splice.{Written}
+use Rattle.ground.specs.SpliceLaws.{length-splice}
 use Rattle.ground.specs.Tests.{oneOf}
 use Rattle.settings.specs.declared.Settings.{Settings}
 use Rattle.settings.specs.Ranges.{settingsOk}
@@ -21,6 +22,10 @@ use Rattle.writer.specs.Calls.{blockItems, fillersTo, endItems}
 pub length-words : (xs : List Item) → length (wordsOf xs) ≡ length xs
 length-words [] = refl
 length-words (x ∷ xs) = ap suc (length-words xs)
+
+-- a writer leaves the buffer as long as it was
+pub written-size : {buf buf′ new : List ℕ} {at next : ℕ} → Written buf at new next buf′ → at + length new ≤ length buf → length buf′ ≡ length buf
+written-size {buf = buf} {new = new} {at = at} w h = ap length (w .words) ∙ length-splice buf at new h
 
 -- the place behind written items is as many words on
 pub next-place : {buf buf′ : List ℕ} {at next : ℕ} (xs : List Item) → Written buf at (wordsOf xs) next buf′ → next ≡ at + length xs

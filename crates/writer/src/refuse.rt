@@ -1,4 +1,4 @@
-// Which refusal a call is given: one table a call, read only.
+// Which refusal a call is given. Every test is made, whatever the state holds, and the first that holds in the paper's order is the answer.
 ghost use mathlib.Core.Path.{_≡_};
 ghost use mathlib.Core.Bool.{false};
 ghost use Prim.Native.Nat.{_+_, _*_};
@@ -20,7 +20,7 @@ use crate::ranges::state_ok;
 use settings::Refusal;
 use settings::Settings;
 
-// What is wrong with a call, in the paper's order of refusals.
+// What is wrong with a call, in the paper's order of refusals: 10, 7, 8, 4, 5, 6, 2, 3, 9.
 pub(crate) struct Wrong {
     pub(crate) state: bool,
     pub(crate) turn: bool,
@@ -164,6 +164,7 @@ pub(crate) fn post_check(s: State, room: usize, channel: usize, window: &[u16]) 
 pub(crate) fn finish_check(s: State, room: usize) -> Refusal
     ensures { λ r. ⌜ numberOf r ≡ finishNumber s room ⌝ }
 {
+    // the count of fillers divides by the multiple, so the state comes first
     if !state_ok(s) {
         return Refusal::State;
     }

@@ -4,13 +4,12 @@ use mathlib.Core.Path.{_≡_, ap, _∙_}
 use Prim.Native.Nat.{_+_}
 use native.Mathlib.Omega.{arith}
 use borrow.Author.Needs.{needs}
-use lib.ListN.{length, replicate}
-use Rattle.ground.specs.SpliceLaws.{length-splice}
+use lib.ListN.{replicate}
 use Rattle.ground.specs.WritingLaws.{written-then}
 use Rattle.items.specs.Items.{wordOf, wordsOf}
 use Rattle.items.specs.declared.Item.the-variants as I
 use Rattle.writer.specs.Calls.{fillersTo, endItems}
-use Rattle.writer.specs.WordsLaws.{end-length, multiple-positive}
+use Rattle.writer.specs.WordsLaws.{written-size, end-length, multiple-positive}
 use Rattle.writer.proofs.put.put_end.Statement.{statement}
 use Rattle.writer.proofs.put.put_end.Tie as tie
 
@@ -32,11 +31,10 @@ counted c =
 
 put-fillers-requires : tie.Need-put-fillers-requires
 put-fillers-requires c κs =
-    let put = c .before .before .before .before .put-item in
+    let trailer = c .before .before .before .before .put-item .ensures in
     let s = c .before .before .before .before .before .before .before in
     let end = end-length (s .args .settings) (s .args .at) in
-    let size = ap length (put .ensures .words) ∙ length-splice (s .args .words .now) (s .args .at) _ (omega (arith, s .pre, end)) in
-    omega (arith, s .pre, end, size, counted (c .before), put .ensures .place)
+    omega (arith, s .pre, end, counted (c .before), trailer .place, written-size trailer (omega (arith, s .pre, end)))
 
 returns : tie.Need-returns
 unfolding endItems
