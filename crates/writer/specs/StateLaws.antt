@@ -15,8 +15,10 @@ use Rattle.writer.specs.declared.Phase.{Phase}
 use Rattle.writer.specs.declared.Phase.the-variants.{Idle, Block, Event}
 use Rattle.writer.specs.declared.State.{State}
 use Rattle.writer.specs.State.{blockOk, eventOk, headWords, leastEvent, mostEvent, wordsOk, noMarks, inBlockOk, phaseTests, phaseOk, stateOk, isIdle, isBlock, isEvent, idle, blank, withBlock, withEvent, withMark, withClosed}
-use Rattle.writer.specs.Calls.{setUpNumber, blockItems, openBlockNumber, openEventNumber, postNumber, finishNumber}
-use Rattle.writer.specs.CallsLaws.{set-up-accepted, open-block-accepted, open-event-accepted, post-accepted, finish-accepted}
+use Rattle.event.specs.Inner.{eventLength}
+use Rattle.event.specs.EventLaws.{length-event, event-least, event-most}
+use Rattle.writer.specs.Calls.{setUpNumber, blockItems, openBlockNumber, openEventNumber, postNumber, closingItems, closeNumber, finishNumber}
+use Rattle.writer.specs.CallsLaws.{set-up-accepted, open-block-accepted, open-event-accepted, post-accepted, close-accepted, finish-accepted}
 use Rattle.writer.specs.CodeLaws.{head-le}
 use Rattle.writer.specs.WordsLaws.{block-length}
 
@@ -223,3 +225,13 @@ close-kept s h i n k l =
       rw numbers (words-more head event (s .closed) (s .words) n k l words),
       (le-leb (s .closed + 1) (s .events) (omega arith), (refl, (refl, (refl, tt)))),
     )
+
+-- an accepted close: the event's words are within an event's range
+pub closing-kept : (s : State) (store : List ℕ) (room : ℕ) → length (s .posted) ≤ 16 → closeNumber s store room ≡ 0
+    → stateOk (withClosed s (s .words + length (closingItems s store))) ≡ true
+unfolding mostEvent
+closing-kept s store room h e =
+    let a = close-accepted s store room e in
+    let ok = state-settings s (a .state) in
+    rw (length-event (s .settings) (s .event) (s .time) (s .posted) store ok)
+    (close-kept s (a .state) (a .turn) (eventLength (s .settings) (s .posted) store) (event-least (s .settings) (s .posted) store) (event-most (s .settings) (s .posted) store ok h))

@@ -14,14 +14,11 @@ use Rattle.settings.specs.declared.Settings.{Settings}
 use Rattle.settings.specs.Ranges.{settingsOk}
 use Rattle.settings.specs.RangesLaws.{settings-in-range}
 use Rattle.items.specs.Items.{wordsOf}
+use Rattle.items.specs.ItemsLaws.{length-words}
 use Rattle.items.specs.declared.Item.{Item}
 use Rattle.items.specs.declared.Item.the-variants as I
 use Rattle.writer.specs.State.{headWords}
 use Rattle.writer.specs.Calls.{blockItems, fillersTo, endItems}
-
-pub length-words : (xs : List Item) → length (wordsOf xs) ≡ length xs
-length-words [] = refl
-length-words (x ∷ xs) = ap suc (length-words xs)
 
 -- a writer leaves the buffer as long as it was
 pub written-size : {buf buf′ new : List ℕ} {at next : ℕ} → Written buf at new next buf′ → at + length new ≤ length buf → length buf′ ≡ length buf

@@ -189,6 +189,7 @@ pub fn close(state: State, store: &[u16], words: &mut [u32]) -> Answer
             &posted,
             store,
         );
+        let unposted = [false; 16];
         let closed = State {
             settings,
             phase: Phase::Block,
@@ -196,7 +197,7 @@ pub fn close(state: State, store: &[u16], words: &mut [u32]) -> Answer
             events: state.events,
             event: 0,
             time: 0,
-            posted: [false; 16],
+            posted: unposted,
             closed: state.closed + 1,
             words: next,
         };

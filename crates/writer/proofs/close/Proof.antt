@@ -1,53 +1,63 @@
+-- `writer::close` meets its contract: all is checked, then the event's words are written. Assumes nothing.
+use mathlib.Core.Path.{_≡_, sym, ap, _∙_}
+use native.Mathlib.Omega.{arith}
 use borrow.Author.Needs.{needs}
+use borrow.Author.Tests.{eqb-true}
+use lib.ListN.{length}
+use Rattle.writer.specs.State.{withClosed}
+use Rattle.writer.specs.StateLaws.{state-settings, event-says}
+use Rattle.writer.specs.CallsLaws.{CloseAccepted, close-accepted}
+use Rattle.writer.specs.Calls.{closingItems}
+use Rattle.writer.specs.WordsLaws.{next-place}
 use Rattle.writer.proofs.close.Statement.{statement}
 use Rattle.writer.proofs.close.Tie as tie
-use Rattle.writer.proofs.close.Reads as reads
-use Rattle.writer.proofs.close.Lts as lts
-use Rattle.event.proofs.put_event.Reads as put-event-reads
-use Rattle.settings.proofs.accepted.Reads as accepted-reads
-use Rattle.writer.proofs.refuse.close_check.Reads as close-check-reads
 
--- src/lib.rt:179:9
-close-check-requires : tie.Need-close-check-requires
-close-check-requires c κs = search needs
+-- where the call is accepted
+known : (c : tie.Then1) → let a = c .before .before .before .before .before .args in CloseAccepted (a .state) (a .store .now) (length (a .words .now))
+known c = close-accepted _ _ _ (sym (c .before .before .close-check .ensures) ∙ eqb-true _ 0 (sym (c .before .accepted .ensures) ∙ c .if1 .taken))
 
--- src/lib.rt:180:8
-accepted-requires : tie.Need-accepted-requires
-accepted-requires c κs = search needs
-
--- src/lib.rt:189:13
-slice-aggregate-put-event : tie.Need-slice-aggregate-put-event
-slice-aggregate-put-event c = search needs
-
--- src/lib.rt:183:13
 put-event-requires : tie.Need-put-event-requires
-put-event-requires c κs = ?
+put-event-requires c κs =
+    let k = known (c .before .before .before .before) in
+    let marks : length (c .before .before .before .before .before .before .before .before .before .args .state .posted) ≡ 16 = search needs in
+    ((record { settings = state-settings _ (k .state); marks = omega (arith, marks); rows = k .wide }, event-says _ (k .state) (k .turn) .time), k .fit)
 
--- src/lib.rt:200:21
 add-t17 : tie.Need-add-t17
-add-t17 c = ?
+add-t17 c =
+    let k = known (c .before .before .before .before .before .before .before .before) in
+    let e = event-says _ (k .state) (k .turn) in
+    omega (arith, e .closed, e .inside .events .1)
 
--- src/lib.rt:203:9
-same-length : tie.Need-same-length
-same-length c = search needs
-
--- src/lib.rt:203:9
 returns : tie.Need-returns
-returns c = ?
+unfolding withClosed
+returns c =
+    let written = c .before .before .before .put-event .ensures in
+    let t = c .before .before .before .before .before .before .before .before in
+    let a = t .before .before .before .before .before .args in
+    let number = t .before .before .close-check .ensures in
+    let yes = sym (t .before .accepted .ensures) ∙ t .if1 .taken in
+    let next = next-place (closingItems (a .state) (a .store .now)) written in
+    record {
+      refusal = number;
+      state = rw (← number, yes) (ap (withClosed (a .state)) next);
+      buffer = rw (← number, yes) (written .words);
+    }
 
--- src/lib.rt:176:1
 returns-2 : tie.Need-returns-2
-returns-2 c = ?
+returns-2 c =
+    let number = c .before .before .close-check .ensures in
+    let no = sym (c .before .accepted .ensures) ∙ c .if1 .left in
+    record { refusal = number; state = rw (← number, no); buffer = rw (← number, no) }
 
 pub close-spec : {M : Type 1} → statement M
 close-spec =
     tie.close
     (tie.spec
-    close-check-requires
-    accepted-requires
-    slice-aggregate-put-event
+    (λ c κs. search needs)
+    (λ c κs. search needs)
+    (λ c. search needs)
     put-event-requires
     add-t17
-    same-length
+    (λ c. search needs)
     returns
     returns-2)

@@ -9,7 +9,7 @@ use Rattle.ground.specs.WritingLaws.{Left, left-all, left-room, left-less, left
 use Rattle.items.specs.Items.{wordOf, wordsOf}
 use Rattle.items.specs.declared.Item.{Item}
 use Rattle.items.specs.declared.Item.the-variants as I
-use Rattle.writer.specs.WordsLaws.{length-words}
+use Rattle.items.specs.ItemsLaws.{length-words}
 use Rattle.writer.proofs.put.put_fillers.Statement.{statement}
 use Rattle.writer.proofs.put.put_fillers.Tie as tie
 

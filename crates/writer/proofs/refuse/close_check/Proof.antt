@@ -1,7 +1,7 @@
 -- `writer::refuse::close_check` meets its contract: the rows of its table, in order.
-use Prim.Native.Nat.{_*_, _≤_}
-use mathlib.Core.Path.{_≡_, sym, ap, _∙_}
-use mathlib.Core.Bool.{true, false, not}
+use Prim.Native.Nat.{_*_}
+use mathlib.Core.Path.{_≡_, sym, _∙_}
+use mathlib.Core.Bool.{true, false}
 use native.Mathlib.Omega.{arith}
 use borrow.Author.Needs.{needs}
 use borrow.Author.Tests.{ltb-false, not-true, not-false}
@@ -73,17 +73,27 @@ returns-5 : tie.Need-returns-5
 unfolding closeNumber closeTable firstOf
 returns-5 c =
     let a = c .before .before .before .before .before .before .before .before .before .before .before .before .before .before .before .args in
-    rw (good (c .before .before .before .before .before .before .before .before .before .before), event (c .before .before .before .before .before .before .before .before), wide (c .before .before .before .before .before .before), clean (c .before .before .before),
+    rw (
+      good (c .before .before .before .before .before .before .before .before .before .before),
+      event (c .before .before .before .before .before .before .before .before),
+      wide (c .before .before .before .before .before .before),
+      clean (c .before .before .before),
       length-event (a .s .settings) (a .s .event) (a .s .time) (a .s .posted) (a .store .now) (state-settings _ (good (c .before .before .before .before .before .before .before .before .before .before))),
-      sym (c .before .event-short .ensures) ∙ c .if5 .taken)
+      sym (c .before .event-short .ensures) ∙ c .if5 .taken,
+    )
 
 returns-6 : tie.Need-returns-6
 unfolding closeNumber closeTable firstOf
 returns-6 c =
     let a = c .before .before .before .before .before .before .before .before .before .before .before .before .before .before .before .args in
-    rw (good (c .before .before .before .before .before .before .before .before .before .before), event (c .before .before .before .before .before .before .before .before), wide (c .before .before .before .before .before .before), clean (c .before .before .before),
+    rw (
+      good (c .before .before .before .before .before .before .before .before .before .before),
+      event (c .before .before .before .before .before .before .before .before),
+      wide (c .before .before .before .before .before .before),
+      clean (c .before .before .before),
       length-event (a .s .settings) (a .s .event) (a .s .time) (a .s .posted) (a .store .now) (state-settings _ (good (c .before .before .before .before .before .before .before .before .before .before))),
-      sym (c .before .event-short .ensures) ∙ c .if5 .left)
+      sym (c .before .event-short .ensures) ∙ c .if5 .left,
+    )
 
 pub close-check-spec : {M : Type 1} → statement M
 close-check-spec =
