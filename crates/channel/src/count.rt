@@ -15,7 +15,7 @@ fn one_if(on: bool) -> usize
 }
 
 // A header and its pairs, where they are wanted.
-pub fn window_length(on: bool, samples: usize) -> usize
+pub(crate) fn window_length(on: bool, samples: usize) -> usize
     requires { ⌜ samples ≤ mostSamples ⌝ }
     ensures { λ r. ⌜ (r ≡ cond on (1 + pairsFor samples) 0) × (r ≤ 251) ⌝ }
 {
@@ -33,7 +33,7 @@ fn pulse_length(parts: Parts, pulse: Pulse) -> usize
     samples + (integral + (time + pedestal))
 }
 
-pub fn pulses_length(parts: Parts, found: Pulses, samples: usize) -> usize
+pub(crate) fn pulses_length(parts: Parts, found: Pulses, samples: usize) -> usize
     requires { ⌜ InWindow samples found × (samples ≤ mostSamples) ⌝ }
     ensures { λ r. ⌜ (r ≡ pulsesLength parts (listed found)) × (r ≤ 762) ⌝ }
 {

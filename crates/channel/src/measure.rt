@@ -30,7 +30,7 @@ fn either(first: bool, x: u32, y: u32) -> u32
     if first { x } else { y }
 }
 
-pub fn integral_of(channel: u32, i: u32, pulse: Pulse) -> Item
+pub(crate) fn integral_of(channel: u32, i: u32, pulse: Pulse) -> Item
     ensures { λ r. ⌜ r ≡ integralItem channel i pulse ⌝ }
 {
     Item::Integral(PulseIntegral {
@@ -42,7 +42,7 @@ pub fn integral_of(channel: u32, i: u32, pulse: Pulse) -> Item
 }
 
 // The high-resolution time, or TC.
-pub fn time_of(high: bool, channel: u32, i: u32, pulse: Pulse) -> Item
+pub(crate) fn time_of(high: bool, channel: u32, i: u32, pulse: Pulse) -> Item
     requires { ⌜ (pulse .tc ≤ mostSamples) × (pulse .time .coarse ≤ mostSamples) ⌝ }
     ensures { λ r. ⌜ r ≡ timeItem high channel i pulse ⌝ }
 {
@@ -57,7 +57,7 @@ pub fn time_of(high: bool, channel: u32, i: u32, pulse: Pulse) -> Item
 }
 
 // VMIN is cut in the word alone.
-pub fn pedestal_of(channel: u32, i: u32, pulse: Pulse) -> Item
+pub(crate) fn pedestal_of(channel: u32, i: u32, pulse: Pulse) -> Item
     ensures { λ r. ⌜ r ≡ pedestalItem channel i pulse ⌝ }
 {
     let time = pulse.time;

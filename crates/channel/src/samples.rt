@@ -54,7 +54,7 @@ fn put_pairs(words: &mut [u32], at: usize, samples: &[u16]) -> usize
 }
 
 // A channel's whole window.
-pub fn put_window(words: &mut [u32], at: usize, channel: u32, row: &[u16]) -> usize
+pub(crate) fn put_window(words: &mut [u32], at: usize, channel: u32, row: &[u16]) -> usize
     requires { ⌜ length (now row) ≤ mostSamples ⌝ }
     requires { ⌜ at + length (windowItems channel (now row)) ≤ length (now words) ⌝ }
     ensures { λ r. ⌜ Written (now (words .entry)) at (wordsOf (windowItems channel (now (row .entry)))) r (now (words .exit)) ⌝ }
@@ -65,7 +65,7 @@ pub fn put_window(words: &mut [u32], at: usize, channel: u32, row: &[u16]) -> us
 }
 
 // A pulse's data set.
-pub fn put_raw(
+pub(crate) fn put_raw(
     words: &mut [u32],
     at: usize,
     channel: u32,
