@@ -29,7 +29,7 @@ use Rattle.event.specs.Inner.{Lent, eventLength}
 -- ---- a row
 
 -- a row ends where the next begins, or before
-row-end : (c n nw : ℕ) → c < n → c * nw + nw ≤ n * nw
+pub row-end : (c n nw : ℕ) → c < n → c * nw + nw ≤ n * nw
 row-end c n nw h = rw (← suc-mul c nw) (mul-le-mul-right nw h)
 
 module _ (s : Settings) (posted : List Bool) (store : List ℕ) (lent : Lent s posted store) where

@@ -1,0 +1,3 @@
+pub mod Refused
+pub mod Order
+pub mod OrderLaws
