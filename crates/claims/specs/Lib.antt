@@ -1,3 +1,5 @@
 pub mod Refused
 pub mod Order
 pub mod OrderLaws
+pub mod Own
+pub mod OwnLaws

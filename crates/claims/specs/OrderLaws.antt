@@ -32,15 +32,15 @@ post-after b p r store′ h = (h .refusal, ap₂ (λ (s : State) (l : List ℕ).
 -- ---- one post after another
 
 -- a number is 0 or it is not
-zero-or : {X : Type 0} (n : ℕ) → (n ≡ 0 → X) → ((n ≡ 0 → ⊥) → X) → X
+pub zero-or : {X : Type 0} (n : ℕ) → (n ≡ 0 → X) → ((n ≡ 0 → ⊥) → X) → X
 zero-or zero f g = f refl
 zero-or (suc n) f g = g (λ e. omega arith)
 
 -- one order or the other of two numbers that differ
-either-way : {X : Type 0} (c d : ℕ) → c ≢ d → (c < d → X) → (d < c → X) → X
+pub either-way : {X : Type 0} (c d : ℕ) → c ≢ d → (c < d → X) → (d < c → X) → X
 either-way c d h f g = elim (decLt c d) [ yes k ↦ f k | no k ↦ g (omega (arith, k, h)) ]
 
-marked : State → ℕ → State
+unfoldable pub marked : State → ℕ → State
 marked s c = withMark s (set (s .posted) c true)
 
 -- in an open event the ranges ask nothing of the marks
@@ -56,23 +56,23 @@ unfolding postNumber postTable stateOk marked withMark
 number-marked s room c d v e h = rw (phase-marked (s .phase) s c e, getD-set-other (s .posted) c d true false h)
 
 -- what an accepted post leaves
-left : Bench → Post → Bench
+unfoldable pub left : Bench → Post → Bench
 left b p = record { state = marked (b .state) (p .channel); store = splice (b .store) (rowStart (b .state) (p .channel)) (p .window) }
 
-has : (b : Bench) (p : Post) → answerOf b p ≡ 0 → PostAccepted (b .state) (length (b .store)) (p .channel) (p .window)
+pub has : (b : Bench) (p : Post) → answerOf b p ≡ 0 → PostAccepted (b .state) (length (b .store)) (p .channel) (p .window)
 unfolding answerOf
 has b p e = post-accepted (b .state) (length (b .store)) (p .channel) (p .window) e
 
-after-done : (b : Bench) (p : Post) → answerOf b p ≡ 0 → after b p ≡ left b p
+pub after-done : (b : Bench) (p : Post) → answerOf b p ≡ 0 → after b p ≡ left b p
 unfolding after left marked
 after-done b p e = ap₂ (λ (s : State) (l : List ℕ). record { state = s; store = l }) (done _ _ e) (done _ _ e)
 
-after-refused : (b : Bench) (p : Post) → (answerOf b p ≡ 0 → ⊥) → after b p ≡ b
+pub after-refused : (b : Bench) (p : Post) → (answerOf b p ≡ 0 → ⊥) → after b p ≡ b
 unfolding after
 after-refused b p e = ap₂ (λ (s : State) (l : List ℕ). record { state = s; store = l }) (refused (answerOf b p) _ _ e) (refused (answerOf b p) _ _ e)
 
 -- an accepted post's row lies in the store
-fits : (b : Bench) (p : Post) → answerOf b p ≡ 0 → rowStart (b .state) (p .channel) + length (p .window) ≤ length (b .store)
+pub fits : (b : Bench) (p : Post) → answerOf b p ≡ 0 → rowStart (b .state) (p .channel) + length (p .window) ≤ length (b .store)
 fits b p e =
     let a = has b p e in
     rw (a .whole) (row-fits (b .state) (length (b .store)) (p .channel) (p .window) a)

@@ -1,0 +1,202 @@
+-- A channel's words are those of its own posted window. Assumes nothing.
+use Prim.Native.Nat.{ℕ, zero, suc, _+_, _-_, _*_, _≤_, _<_}
+use mathlib.Core.Path.{_≡_, refl, sym, ap, ap₂, _∙_, subst}
+use mathlib.Core.Logic.{_≢_}
+use mathlib.Core.Bool.{Bool, true, false, not, cond}
+use mathlib.Core.List.{List, [], _∷_, _++_}
+use native.Mathlib.Omega.{arith}
+use borrow.Author.Tests.{eqb-true, eqb-false, eq-eqb, ne-eqb, not-true}
+use lib.Dec.{eqb}
+use lib.ListN.{length, getD, drop, length-set}
+use lib.Seq.{getD-set-same, getD-set-other}
+use Rattle.ground.specs.Order.{ToEach, steps}
+use Rattle.ground.specs.SpliceLaws.{row-same, row-before, row-behind}
+use Rattle.ground.specs.TestsLaws.{and-left, and-right}
+use Rattle.settings.specs.declared.Settings.{Settings}
+use Rattle.items.specs.declared.Item.{Item}
+use Rattle.items.specs.declared.Item.the-variants as I
+use Rattle.channel.specs.Channel.{Common, commonOf, channelItems}
+use Rattle.event.specs.Event.{row, timeItems, channelsItems, eventItems}
+use Rattle.event.specs.EventLaws.{row-end, channelAt, channels-step, channels-end}
+use Rattle.writer.specs.State.{noMarks, withMark}
+use Rattle.writer.specs.Calls.{closingItems}
+use Rattle.claims.specs.Order.{Bench, Post, answerOf, after, posts, Differ, Apart}
+use Rattle.claims.specs.OrderLaws.{zero-or, either-way, marked, left, has, after-done, after-refused, fits, number-after}
+use Rattle.claims.specs.Own.{JustOpened, windowFor, itemsFor, ownItems}
+
+-- ---- what posts leave alone
+
+-- what channel c would write if the event closed now
+abbrev partAt : Bench → ℕ → List Item
+partAt b c = channelAt (b .state .settings) (b .store) (b .state .posted) c
+
+-- the settings, the event's number and time
+record Same (a b : Bench) : Type 0 where
+  settings : a .state .settings ≡ b .state .settings
+  event : a .state .event ≡ b .state .event
+  time : a .state .time ≡ b .state .time
+  marks : length (a .state .posted) ≡ length (b .state .posted)
+
+same-after : (b : Bench) (p : Post) → Same (after b p) b
+unfolding left marked withMark
+same-after b p =
+    zero-or (answerOf b p)
+    (λ e. rw (after-done b p e) (record { settings = refl; event = refl; time = refl; marks = length-set (b .state .posted) (p .channel) true }))
+    (λ e. rw (after-refused b p e) (record { settings = refl; event = refl; time = refl; marks = refl }))
+
+same-posts : (b : Bench) (l : List Post) → Same (posts b l) b
+unfolding steps
+same-posts b [] = record { settings = refl; event = refl; time = refl; marks = refl }
+same-posts b (p ∷ l) =
+    let i = same-posts (after b p) l in
+    let j = same-after b p in
+    record { settings = i .settings ∙ j .settings; event = i .event ∙ j .event; time = i .time ∙ j .time; marks = i .marks ∙ j .marks }
+
+-- another channel's row and mark
+other-row : (b : Bench) (p : Post) (c : ℕ) → c ≢ p .channel → answerOf b p ≡ 0
+    → row (b .state .settings .nw) c (left b p .store) ≡ row (b .state .settings .nw) c (b .store)
+unfolding row left
+other-row b p c h e =
+    let n = b .state .settings .nw in
+    let at = p .channel * n in
+    let g : at ≤ length (b .store) = omega (arith, fits b p e) in
+    either-way c (p .channel) h
+    (λ k. row-before (b .store) at (p .window) (c * n) n g (row-end c (p .channel) n k))
+    (λ k. row-behind (b .store) at (p .window) (c * n) n g (rw (has b p e .whole) (row-end (p .channel) c n k)))
+
+part-left : (b : Bench) (p : Post) (c : ℕ) → c ≢ p .channel → answerOf b p ≡ 0 → partAt (left b p) c ≡ partAt b c
+unfolding left marked withMark
+part-left b p c h e =
+    let s = b .state .settings in
+    ap₂ (λ (m : Bool) (w : List ℕ). cond m (channelItems (commonOf s) (getD (s .thresholds) c 0) c w) [])
+    (getD-set-other (b .state .posted) (p .channel) c true false h) (other-row b p c h e)
+
+part-after : (b : Bench) (p : Post) (c : ℕ) → c ≢ p .channel → partAt (after b p) c ≡ partAt b c
+part-after b p c h =
+    zero-or (answerOf b p)
+    (λ e. ap (λ (t : Bench). partAt t c) (after-done b p e) ∙ part-left b p c h e)
+    (λ e. ap (λ (t : Bench). partAt t c) (after-refused b p e))
+
+-- no post of the list is for channel c
+abbrev NoneFor : ℕ → List Post → Type 0
+NoneFor c [] = Unit {0}
+NoneFor c (p ∷ l) = (c ≢ p .channel) × NoneFor c l
+
+none-for : (p : Post) (l : List Post) (c : ℕ) → p .channel ≡ c → ToEach Differ p l → NoneFor c l
+none-for p [] c e t = tt
+none-for p (q ∷ l) c e t = ((λ z. t .0 (e ∙ z)), none-for p l c e (t .1))
+
+part-kept : (b : Bench) (l : List Post) (c : ℕ) → NoneFor c l → partAt (posts b l) c ≡ partAt b c
+unfolding steps
+part-kept b [] c n = refl
+part-kept b (p ∷ l) c n = part-kept (after b p) l c (n .1) ∙ part-after b p c (n .0)
+
+window-none : (b : Bench) (l : List Post) (c : ℕ) → NoneFor c l → windowFor b l c ≡ []
+unfolding windowFor
+window-none b [] c n = refl
+window-none b (p ∷ l) c n = rw (ne-eqb (p .channel) c (λ e. n .0 (sym e))) (window-none b l c (n .1))
+
+window-after : (b : Bench) (p : Post) (l : List Post) (c : ℕ) → ToEach Differ p l → windowFor (after b p) l c ≡ windowFor b l c
+unfolding windowFor
+window-after b p [] c t = refl
+window-after b p (q ∷ l) c t = rw (number-after b p q (λ e. t .0 (sym e)), window-after b p l c (t .1))
+
+-- ---- its own post
+
+-- an accepted post stands in its row, and is marked
+part-own : (b : Bench) (p : Post) → p .channel < length (b .state .posted) → answerOf b p ≡ 0
+    → partAt (left b p) (p .channel) ≡ itemsFor (b .state .settings) (p .channel) (p .window ∷ [])
+unfolding left marked withMark row
+part-own b p h e =
+    let s = b .state .settings in
+    let c = p .channel in
+    let at : c * s .nw ≤ length (b .store) = omega (arith, fits b p e) in
+    ap₂ (λ (m : Bool) (w : List ℕ). cond m (channelItems (commonOf s) (getD (s .thresholds) c 0) c w) [])
+    (getD-set-same (b .state .posted) c true false h)
+    (rw (has b p e .whole) at (row-same (b .store) (c * s .nw) (p .window) at))
+
+mark-after : (b : Bench) (p : Post) (c : ℕ) → c ≢ p .channel → getD (after b p .state .posted) c false ≡ getD (b .state .posted) c false
+unfolding left marked withMark
+mark-after b p c h =
+    zero-or (answerOf b p)
+    (λ e. ap (λ (t : Bench). getD (t .state .posted) c false) (after-done b p e) ∙ getD-set-other (b .state .posted) (p .channel) c true false h)
+    (λ e. ap (λ (t : Bench). getD (t .state .posted) c false) (after-refused b p e))
+
+-- the first post is for channel c
+own-here : (b : Bench) (p : Post) (l : List Post) → let c = p .channel in c < length (b .state .posted) → getD (b .state .posted) c false ≡ false → NoneFor c l
+    → partAt (posts (after b p) l) c ≡ itemsFor (b .state .settings) c (windowFor b (p ∷ l) c)
+unfolding windowFor
+own-here b p l h m n =
+    part-kept (after b p) l (p .channel) n
+    ∙ zero-or (answerOf b p)
+    (λ z. ap (λ (t : Bench). partAt t (p .channel)) (after-done b p z) ∙ rw (eq-eqb (p .channel) (p .channel) refl, z) (part-own b p h z))
+    (λ z. ap (λ (t : Bench). partAt t (p .channel)) (after-refused b p z)
+    ∙ rw (m, eq-eqb (p .channel) (p .channel) refl, ne-eqb (answerOf b p) 0 z, window-none b l (p .channel) n))
+
+module _ (c : ℕ) where
+  pub own-part : (b : Bench) (l : List Post) → c < length (b .state .posted) → getD (b .state .posted) c false ≡ false → Apart l
+      → partAt (posts b l) c ≡ itemsFor (b .state .settings) c (windowFor b l c)
+  unfolding steps windowFor
+  own-part b [] h m a = rw m
+  own-part b (p ∷ l) h m a = go (eqb (p .channel) c) refl (λ h′ m′. own-part (after b p) l h′ m′ (a .1))
+    where
+      go : (t : Bool) → eqb (p .channel) c ≡ t
+          → (c < length (after b p .state .posted) → getD (after b p .state .posted) c false ≡ false
+          → partAt (posts (after b p) l) c ≡ itemsFor (after b p .state .settings) c (windowFor (after b p) l c))
+          → partAt (posts (after b p) l) c ≡ itemsFor (b .state .settings) c (windowFor b (p ∷ l) c)
+      go true e r = here c (eqb-true (p .channel) c e) h m
+        where
+          here : (d : ℕ) → p .channel ≡ d → d < length (b .state .posted) → getD (b .state .posted) d false ≡ false
+              → partAt (posts (after b p) l) d ≡ itemsFor (b .state .settings) d (windowFor b (p ∷ l) d)
+          here d q h m = subst (λ (k : ℕ). k < length (b .state .posted) → getD (b .state .posted) k false ≡ false → partAt (posts (after b p) l) k ≡ itemsFor (b .state .settings) k (windowFor b (p ∷ l) k)) q
+              (λ h m. own-here b p l h m (none-for p l (p .channel) refl (a .0))) h m
+      go false e r =
+          let d : c ≢ p .channel = λ z. eqb-false _ _ e (sym z) in
+          let j = same-after b p in
+          r (rw (j .marks) h) (mark-after b p c d ∙ m)
+          ∙ ap₂ (λ (s : Settings) (ws : List (List ℕ)). itemsFor s c ws) (j .settings) (window-after b p l c (a .0))
+          ∙ rw e
+
+-- ---- all channels
+
+unmarked : (ms : List Bool) (c : ℕ) → noMarks ms ≡ true → getD ms c false ≡ false
+unfolding noMarks
+unmarked [] c h = refl
+unmarked (m ∷ ms) zero h = not-true m (and-left (not m) _ h)
+unmarked (m ∷ ms) (suc c) h = unmarked ms c (and-right (not m) _ h)
+
+own-channels : (b : Bench) (l : List Post) → JustOpened b → Apart l → (c n : ℕ) → c + n ≡ 16
+    → channelsItems (posts b l .state .settings) (posts b l .store) c (drop c (posts b l .state .posted)) ≡ ownItems (b .state .settings) (windowFor b l) c n
+unfolding ownItems
+own-channels b l o a c zero e =
+    channels-end (posts b l .state .settings) (posts b l .store) (posts b l .state .posted) c (omega (arith, same-posts b l .marks, o .sixteen))
+own-channels b l o a c (suc n) e =
+    channels-step (posts b l .state .settings) (posts b l .store) (posts b l .state .posted) c (omega (arith, same-posts b l .marks, o .sixteen))
+    ∙ ap₂ (λ (x y : List Item). x ++ y)
+    (own-part c b l (omega (arith, o .sixteen)) (unmarked (b .state .posted) c (o .unposted)) a)
+    (own-channels b l o a (c + 1) n (omega arith))
+
+-- "a channel's words depend on its own posted window, its own threshold and the common settings alone": what a close after the posts writes is the
+-- header, the time words, and for each channel, rising, the records of its own window; whatever the store held before
+pub own-words : (b : Bench) (l : List Post) → JustOpened b → Apart l
+    → closingItems (posts b l .state) (posts b l .store)
+    ≡ I.Event (record { slot = b .state .settings .slot; number = b .state .event })
+    ∷ (timeItems (b .state .settings .times) (b .state .time) ++ ownItems (b .state .settings) (windowFor b l) 0 16)
+unfolding eventItems
+own-words b l o a =
+    let s = same-posts b l in
+    rw (own-channels b l o a 0 16 refl, s .settings, s .event, s .time)
+
+-- the same of two runs that may differ in all else: other windows, other thresholds, the store before, the order and number of posts
+pub own-alone : (b b′ : Bench) (l l′ : List Post) (c : ℕ) → commonOf (b .state .settings) ≡ commonOf (b′ .state .settings)
+    → getD (b .state .settings .thresholds) c 0 ≡ getD (b′ .state .settings .thresholds) c 0 → windowFor b l c ≡ windowFor b′ l′ c
+    → itemsFor (b .state .settings) c (windowFor b l c) ≡ itemsFor (b′ .state .settings) c (windowFor b′ l′ c)
+own-alone b b′ l l′ c s t w = rw w (go (windowFor b′ l′ c))
+  where
+    go : (ws : List (List ℕ)) → itemsFor (b .state .settings) c ws ≡ itemsFor (b′ .state .settings) c ws
+    go [] = refl
+    go (x ∷ ws) = ap₂ (λ (common : Common) (threshold : ℕ). channelItems common threshold c x) s t
+
+-- "no posted window, no words"
+pub no-window : (s : Settings) (b : Bench) (l : List Post) (c : ℕ) → windowFor b l c ≡ [] → itemsFor s c (windowFor b l c) ≡ []
+no-window s b l c e = rw e
