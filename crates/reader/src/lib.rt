@@ -1,0 +1,44 @@
+// Reads a block of the format word by word: where the reading stands, and what one word does to it.
+use items::Form;
+use items::Item;
+
+// Where in a block the next word stands.
+pub enum Phase {
+    // Before the block's first word.
+    Start,
+    // Behind the block header, and behind the parameters.
+    Head,
+    Front,
+    // Behind an event header, and behind its first time word with time bits 26-24.
+    Opened,
+    Timed(u32),
+    // Behind an item of an event.
+    Items,
+    // In a type 4: pairs to come, and whether the last holds one sample. In a type 6: pairs that may come.
+    Window(u32, bool),
+    Raw(u32),
+    // Behind the trailer, or a module empty: fillers that may come.
+    Tail(u32),
+}
+
+// The place of the next word, from 0 at the block's first; the block's slot; the event headers to come; the phase.
+pub struct Scan {
+    pub place: u32,
+    pub slot: u32,
+    pub left: u32,
+    pub phase: Phase,
+}
+
+// What one word does: it is of that form and the scan goes on, it is refused with a number, or the block ends before it.
+pub enum Step {
+    Went(Form, Scan),
+    Refused(u32),
+    Ended,
+}
+
+// The same with the word's record.
+pub enum Judged {
+    Took(Item, Scan),
+    Refused(u32),
+    Ended,
+}
