@@ -1,6 +1,6 @@
 -- Document 01, "Reading", word by word. A word is first given a form, by where it stands, bit 31 and its type; then it is taken apart, and
 -- all else is said of the record. Places count from 0 at the block's first word. Assumes nothing.
-use Prim.Native.Nat.{ℕ, _+_, _-_, _*_, _/_, _%_, _^_, min}
+use Prim.Native.Nat.{ℕ, _+_, _-_, _/_, _%_, _^_, min}
 use mathlib.Core.Bool.{Bool, true, false, not, cond, _&&_, _||_}
 use mathlib.Core.List.{List, [], _∷_}
 use lib.Dec.{eqb, leb, ltb}

@@ -1,6 +1,12 @@
 // Reads a block of the format word by word: where the reading stands, and what one word does to it.
+ghost use mathlib.Core.Path.{_≡_};
+ghost use Rattle.reader.specs.Reader.{startOf, stepAt, judgeAt};
 use items::Form;
 use items::Item;
+
+mod after;
+mod form;
+mod question;
 
 // Where in a block the next word stands.
 pub enum Phase {
@@ -41,4 +47,49 @@ pub enum Judged {
     Took(Item, Scan),
     Refused(u32),
     Ended,
+}
+
+impl Scan {
+    // Before a block's first word.
+    pub fn start() -> Scan
+        ensures { λ r. ⌜ r ≡ startOf ⌝ }
+    {
+        Scan {
+            place: 0,
+            slot: 0,
+            left: 0,
+            phase: Phase::Start,
+        }
+    }
+
+    // One word; no record is made.
+    pub fn step(self, word: u32) -> Step
+        ensures { λ r. ⌜ r ≡ stepAt self word ⌝ }
+    {
+        if question::at_limit(self) {
+            return Step::Refused(14);
+        }
+        let form = form::form_at(self, word);
+        if form::is_end(form) {
+            return Step::Ended;
+        }
+        let refusal = question::refusal(self, form, word);
+        if refusal == 0 {
+            Step::Went(form, after::scan_after(self, form, word))
+        } else {
+            Step::Refused(refusal)
+        }
+    }
+
+    // One word with its record.
+    pub fn judge(self, word: u32) -> Judged
+        ensures { λ r. ⌜ r ≡ judgeAt self word ⌝ }
+    {
+        let step = self.step(word);
+        match step {
+            Step::Went(form, after) => Judged::Took(Item::take_apart(form, word), after),
+            Step::Refused(number) => Judged::Refused(number),
+            Step::Ended => Judged::Ended,
+        }
+    }
 }
