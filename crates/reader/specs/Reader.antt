@@ -347,6 +347,13 @@ pub data Out : Type 0 where
 unfoldable pub endOf : Scan → Out
 endOf s = cond (atLimit s) (Broken 14 (s .place)) (cond (unfinished (s .phase)) (Broken 11 (s .place)) (Whole (s .place)))
 
+-- the same as a number, "14 if no trailer was read and its place is 4,194,303; 11 no word left"; 0 where the block is whole
+unfoldable pub endNumber : Scan → ℕ
+endNumber s = firstOf ((14, atLimit s) ∷ (11, unfinished (s .phase)) ∷ [])
+
+abbrev pub outOf : ℕ → ℕ → Out
+outOf refusal place = cond (eqb refusal 0) (Whole place) (Broken refusal place)
+
 pub record Reading : Type 0 where
   pub items : List Item
   pub out : Out

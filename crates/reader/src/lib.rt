@@ -1,6 +1,6 @@
 // Reads a block of the format word by word: where the reading stands, and what one word does to it.
 ghost use mathlib.Core.Path.{_≡_};
-ghost use Rattle.reader.specs.Reader.{startOf, stepAt, judgeAt};
+ghost use Rattle.reader.specs.Reader.{startOf, endNumber, stepAt, judgeAt};
 use items::Form;
 use items::Item;
 
@@ -79,6 +79,17 @@ impl Scan {
         } else {
             Step::Refused(refusal)
         }
+    }
+
+    // No word left: the number of the refusal, 0 where the block ends here.
+    pub fn at_end(self) -> u32
+        ensures { λ r. ⌜ r ≡ endNumber self ⌝ }
+    {
+        let p = self.phase;
+        if question::at_limit(self) {
+            return 14;
+        }
+        if question::is_unfinished(p) { 11 } else { 0 }
     }
 
     // One word with its record.
