@@ -1,5 +1,5 @@
 -- The words of the bytes from a place on, and a run at one of them. Assumes nothing.
-use Prim.Native.Nat.{ℕ, suc, _+_, _*_, _%_, _^_, _≤_, _<_}
+use Prim.Native.Nat.{ℕ, _+_, _*_, _%_, _^_, _≤_}
 use mathlib.Core.Path.{_≡_, refl, ap, sym, _∙_}
 use mathlib.Core.Bool.{Bool, cond, true, false}
 use mathlib.Core.List.{List, _∷_}
@@ -7,16 +7,12 @@ use native.Mathlib.Omega.{arith}
 use borrow.Author.Tests.{eqb-true, eq-eqb}
 use lib.Dec.{eqb}
 use lib.ListN.{length, getD, drop}
-use lib.Seq.{drop-cons}
 use Rattle.fields.specs.Bytes.{wordOfBytes}
 use Rattle.reader.specs.Reader.{Out, Whole, Broken, startOf, outOf, onStep, stepAt, checkFrom}
-use Rattle.reader.specs.RunLaws.{check-at}
+use Rattle.reader.specs.RunLaws.{cons-at, check-at}
 use Rattle.reader.specs.declared.Scan.{Scan}
 use Rattle.reader.specs.declared.Step.{Step}
 use Rattle.host.specs.Check.{wordsOfBytes, numberOfOut, checkNumber}
-
-cons-at : (bytes : List ℕ) (i j : ℕ) → i < length bytes → suc i ≡ j → drop i bytes ≡ getD bytes i 0 ∷ drop j bytes
-cons-at bytes i j h e = drop-cons bytes i 0 h ∙ ap (λ (n : ℕ). getD bytes i 0 ∷ drop n bytes) e
 
 -- the word of the four bytes from i on
 abbrev pub wordAt : List ℕ → ℕ → ℕ

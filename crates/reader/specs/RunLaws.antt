@@ -1,8 +1,10 @@
 -- A run's laws: one word of it, what it answers without records, and the block of run A. Assumes nothing.
-use Prim.Native.Nat.{ℕ}
-use mathlib.Core.Path.{_≡_, refl, ap, sym}
+use Prim.Native.Nat.{ℕ, suc, _<_}
+use mathlib.Core.Path.{_≡_, refl, ap, sym, _∙_}
 use mathlib.Core.Bool.{Bool, true, false, cond}
 use mathlib.Core.List.{List, [], _∷_}
+use lib.ListN.{length, getD, drop}
+use lib.Seq.{drop-cons}
 use Rattle.ground.specs.Tests.{firstOf}
 use Rattle.fields.specs.Word.{fieldAt}
 use Rattle.frame.specs.Words.{blockHeaderOf, blockHeaderFixed, blockHeaderWithin, parametersFixed, trailerOf, eventHeaderOf, triggerTimeOf, triggerTimeHighOf, triggerTimeHighFixed, fillerOf}
@@ -11,6 +13,10 @@ use Rattle.reader.specs.declared.Scan.{Scan}
 use Rattle.reader.specs.declared.Step.{Step}
 use Rattle.reader.specs.declared.Step.the-variants as S
 use Rattle.reader.specs.Reader.{formAt, atLimit, refusalOf, onward, after, stepAt, withItem, judgeAt, startOf, Whole, Broken, unfinished, endOf, endNumber, outOf, onJudged, readFrom, onStep, checkFrom}
+
+-- the list from i on, where it has not ended
+pub cons-at : (xs : List ℕ) (i j : ℕ) → i < length xs → suc i ≡ j → drop i xs ≡ getD xs i 0 ∷ drop j xs
+cons-at xs i j h e = drop-cons xs i 0 h ∙ ap (λ (n : ℕ). getD xs i 0 ∷ drop n xs) e
 
 -- how a run ends does not depend on whether its records are made
 pub check-reads : (s : Scan) (words : List ℕ) → (readFrom s words) .out ≡ checkFrom s words
