@@ -9,14 +9,21 @@ use Rattle.ground.specs.Tests.{firstOf}
 use Rattle.fields.specs.Word.{fieldAt}
 use Rattle.frame.specs.Words.{blockHeaderOf, blockHeaderFixed, blockHeaderWithin, parametersFixed, trailerOf, eventHeaderOf, triggerTimeOf, triggerTimeHighOf, triggerTimeHighFixed, fillerOf}
 use Rattle.measures.specs.Words.{timeFixed}
+use Rattle.items.specs.declared.Item.{Item}
 use Rattle.reader.specs.declared.Scan.{Scan}
+use Rattle.reader.specs.declared.Judged.{Judged}
 use Rattle.reader.specs.declared.Step.{Step}
 use Rattle.reader.specs.declared.Step.the-variants as S
-use Rattle.reader.specs.Reader.{formAt, atLimit, refusalOf, onward, after, stepAt, withItem, judgeAt, startOf, Whole, Broken, unfinished, endOf, endNumber, outOf, onJudged, readFrom, onStep, checkFrom}
+use Rattle.reader.specs.Reader.{Reading, then, formAt, atLimit, refusalOf, onward, after, stepAt, withItem, judgeAt, startOf, Whole, Broken, unfinished, endOf, endNumber, outOf, onJudged, readFrom, onStep, checkFrom}
 
 -- the list from i on, where it has not ended
 pub cons-at : (xs : List ℕ) (i j : ℕ) → i < length xs → suc i ≡ j → drop i xs ≡ getD xs i 0 ∷ drop j xs
 cons-at xs i j h e = drop-cons xs i 0 h ∙ ap (λ (n : ℕ). getD xs i 0 ∷ drop n xs) e
+
+-- records before those of a run
+abbrev pub before : List Item → Reading → Reading
+before [] r = r
+before (x ∷ xs) r = then x (before xs r)
 
 -- how a run ends does not depend on whether its records are made
 pub check-reads : (s : Scan) (words : List ℕ) → (readFrom s words) .out ≡ checkFrom s words
@@ -28,6 +35,11 @@ check-reads s (word ∷ words) = go (stepAt s word) (λ t. check-reads t words)
     go (S.Went f t) r = r t
     go (S.Refused n) r = refl
     go S.Ended r = refl
+
+-- the run at a word that was taken, refused, or ends the block
+pub read-at : (s : Scan) (word : ℕ) (words : List ℕ) {j : Judged} → judgeAt s word ≡ j → readFrom s (word ∷ words) ≡ onJudged j (s .place) (λ u. readFrom u words)
+unfolding readFrom
+read-at s word words e = ap (λ (x : Judged). onJudged x (s .place) (λ u. readFrom u words)) e
 
 -- the run at a word of which t was said
 pub check-at : (s : Scan) (word : ℕ) (words : List ℕ) {t : Step} → t ≡ stepAt s word → checkFrom s (word ∷ words) ≡ onStep t (s .place) (λ u. checkFrom u words)

@@ -7,7 +7,7 @@ use lib.ListN.{length, drop, drop-of-length-le}
 use Rattle.reader.specs.Reader.{onward}
 use Rattle.reader.specs.declared.Step.{Step}
 use Rattle.records.specs.Next.{onFiller, fillersFrom}
-use Rattle.records.specs.NextLaws.{fillers-at}
+use Rattle.records.specs.AtLaws.{fillers-at}
 use Rattle.records.proofs.fillers_from.Statement.{statement}
 use Rattle.records.proofs.fillers_from.Tie as tie
 

@@ -6,7 +6,7 @@ use borrow.Author.Needs.{needs}
 use lib.ListN.{drop, drop-of-length-le}
 use Rattle.reader.specs.declared.Judged.{Judged}
 use Rattle.records.specs.Next.{onJudged, nextFrom, nextAt}
-use Rattle.records.specs.NextLaws.{next-at}
+use Rattle.records.specs.AtLaws.{next-at}
 use Rattle.records.proofs.next.Statement.{statement}
 use Rattle.records.proofs.next.Tie as tie
 

@@ -5,7 +5,7 @@ use borrow.Author.Needs.{needs}
 use lib.ListN.{drop, drop-of-length-le}
 use Rattle.reader.specs.declared.Judged.{Judged}
 use Rattle.records.specs.Next.{onHigh, timeFrom}
-use Rattle.records.specs.NextLaws.{time-at}
+use Rattle.records.specs.AtLaws.{time-at}
 use Rattle.records.proofs.time_from.Statement.{statement}
 use Rattle.records.proofs.time_from.Tie as tie
 

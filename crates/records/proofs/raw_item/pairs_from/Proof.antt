@@ -8,7 +8,7 @@ use Rattle.reader.specs.Reader.{onward}
 use Rattle.reader.specs.declared.Step.{Step}
 use Rattle.reader.proofs.Via.{via}
 use Rattle.records.specs.Next.{pairDue, onPair, pairsFrom}
-use Rattle.records.specs.NextLaws.{pairs-at, pairs-stop}
+use Rattle.records.specs.AtLaws.{pairs-at, pairs-stop}
 use Rattle.records.proofs.raw_item.pairs_from.Statement.{statement}
 use Rattle.records.proofs.raw_item.pairs_from.Tie as tie
 
