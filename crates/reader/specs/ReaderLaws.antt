@@ -4,7 +4,7 @@ use mathlib.Core.Path.{_≡_, refl, sym, ap, _∙_}
 use mathlib.Core.Bool.{Bool, true, false, not, cond, _&&_, _||_, false≢true}
 use mathlib.Core.List.{List, [], _∷_}
 use native.Mathlib.Omega.{arith}
-use borrow.Author.Tests.{not-true, eqb-true}
+use borrow.Author.Tests.{not-true, eqb-true, ne-eqb}
 use lib.Dec.{eqb, ltb}
 use lib.ListN.{drop}
 use Rattle.ground.specs.Tests.{firstOf}
@@ -103,6 +103,15 @@ step-limit s word h =
 pub step-by : (s : Scan) (word : ℕ) {f : Form} → f ≡ formAt s word → atLimit s ≡ false → stepAt s word ≡ stepBy s f word (firstOf (drop 1 (refusals s f word)))
 unfolding stepAt refusalOf firstOf
 step-by s word e h = rw (← e, h)
+
+-- in a window a continuation is a pair, and no other word may stand
+pub window-pair : (s : Scan) (word n : ℕ) (odd : Bool) → s .phase ≡ P.Window n odd → read 31 31 word ≡ 0 → formAt s word ≡ F.Pair
+unfolding formAt
+window-pair s word n odd p z = rw (p, z)
+
+pub window-other : (s : Scan) (word n : ℕ) (odd : Bool) → s .phase ≡ P.Window n odd → (read 31 31 word ≡ 0 → ⊥) → formAt s word ≡ F.No
+unfolding formAt
+window-other s word n odd p z = rw (p, ne-eqb _ _ z)
 
 -- with the record
 pub judge-by : (s : Scan) (word : ℕ) {t : Step} → t ≡ stepAt s word → withItem word t ≡ judgeAt s word

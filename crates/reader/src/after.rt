@@ -37,7 +37,7 @@ fn window_phase(width: u32) -> Phase
     Phase::Window(width / 2 + width % 2, width % 2 == 1)
 }
 
-fn window_paired(n: u32, odd: bool) -> Phase
+pub fn window_paired(n: u32, odd: bool) -> Phase
     ensures { λ r. ⌜ r ≡ cond (leb n 1) Phase.Items (Phase.Window (n - 1) odd) ⌝ }
 {
     if n <= 1 {
@@ -115,7 +115,7 @@ fn opened(scan: Scan) -> Scan
 }
 
 // Behind any other word: the phase alone changes.
-fn moved(scan: Scan, phase: Phase) -> Scan
+pub fn moved(scan: Scan, phase: Phase) -> Scan
     ensures { λ r. ⌜ r ≡ record { place = onward (scan .place); slot = scan .slot; left = scan .left; phase = phase } ⌝ }
 {
     Scan {

@@ -7,6 +7,7 @@ use items::Item;
 mod after;
 mod form;
 mod question;
+mod window;
 
 // Where in a block the next word stands.
 pub enum Phase {
@@ -68,6 +69,10 @@ impl Scan {
     {
         if question::at_limit(self) {
             return Step::Refused(14);
+        }
+        let p = self.phase;
+        if let Phase::Window(n, odd) = p {
+            return window::window_step(self, n, odd, word);
         }
         let form = form::form_at(self, word);
         if form::is_end(form) {

@@ -1,6 +1,6 @@
 // What is asked of a word, in the paper's order: the limit, whether it may stand here, its slot, its bits, its count.
 ghost use mathlib.Core.Path.{_≡_};
-ghost use mathlib.Core.Bool.{not, _||_};
+ghost use mathlib.Core.Bool.{not, _&&_, _||_};
 ghost use mathlib.Core.List.{[], _∷_};
 ghost use Prim.Native.Nat.{_+_};
 ghost use lib.Dec.{eqb};
@@ -8,7 +8,7 @@ ghost use lib.ListN.{drop};
 ghost use Rattle.ground.specs.Tests.{firstOf};
 ghost use Rattle.fields.specs.Word.{read};
 ghost use Rattle.frame.specs.Words.{blockHeaderOf, blockHeaderFixed, blockHeaderWithin};
-ghost use Rattle.raw.specs.Words.{windowOf, windowFixed, windowWithin};
+ghost use Rattle.raw.specs.Words.{windowOf, windowFixed, windowWithin, pairFixed};
 ghost use Rattle.items.specs.Items.{itemFrom, fixedIn};
 ghost use Rattle.reader.specs.Reader.{unfinished, atLimit, timeWrong, flagWrong, itemWrong, countWrong, refusals};
 use crate::Phase;
@@ -98,7 +98,7 @@ fn window_wrong(word: u32) -> bool
 }
 
 // The flag that a window's pair must have: only the last of an odd width has it.
-fn window_flag_wrong(n: u32, odd: bool, flag: u32) -> bool
+pub fn window_flag_wrong(n: u32, odd: bool, flag: u32) -> bool
     ensures { λ r. ⌜ r ≡ flagWrong (Phase.Window n odd) flag ⌝ }
 {
     if (n == 1) & odd {
@@ -123,14 +123,20 @@ fn flag_wrong(p: Phase, flag: u32) -> bool
     }
 }
 
+// A pair's bits, where its second flag was compared.
+pub fn pair_bits_wrong(word: u32, flag: bool) -> bool
+    ensures { λ r. ⌜ r ≡ not (pairFixed word) || (not (eqb (read 29 29 word) 0) || ((eqb (read 13 13 word) 1 && not (eqb (read 12 0 word) 0)) || flag)) ⌝ }
+{
+    let pair = SamplePair::take_apart(word);
+    let unheld = (pair.nosecond == 1) & (pair.second != 0);
+    !SamplePair::fixed(word) | ((pair.nofirst != 0) | (unheld | flag))
+}
+
 fn pair_wrong(scan: Scan, word: u32) -> bool
     ensures { λ r. ⌜ r ≡ not (fixedIn Form.Pair word) || itemWrong scan (itemFrom Form.Pair word) ⌝ }
 {
     let p = scan.phase;
-    let pair = SamplePair::take_apart(word);
-    let unheld = (pair.nosecond == 1) & (pair.second != 0);
-    let flags = (pair.nofirst != 0) | (unheld | flag_wrong(p, pair.nosecond));
-    !SamplePair::fixed(word) | flags
+    pair_bits_wrong(word, flag_wrong(p, fields::take(word, 13, 1)))
 }
 
 // The trailer's count is of the words from the header to itself.

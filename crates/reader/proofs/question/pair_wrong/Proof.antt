@@ -1,10 +1,12 @@
 -- `reader::question::pair_wrong` meets its contract.
 use borrow.Author.Needs.{needs}
+use Rattle.raw.specs.Words.{pairOf}
 use Rattle.reader.proofs.question.pair_wrong.Statement.{statement}
 use Rattle.reader.proofs.question.pair_wrong.Tie as tie
 
 returns : tie.Need-returns
-returns c = cc
+unfolding pairOf
+returns c = rw (c .pair-bits-wrong .ensures, c .before .flag-wrong .ensures, c .before .before .take .ensures)
 
 pub pair-wrong-spec : {M : Type 1} → statement M
 pair-wrong-spec =
