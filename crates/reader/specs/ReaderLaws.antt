@@ -114,7 +114,7 @@ unfolding formAt
 window-other s word n odd p z = rw (p, ne-eqb _ _ z)
 
 -- with the record
-pub judge-by : (s : Scan) (word : ℕ) {t : Step} → t ≡ stepAt s word → withItem word t ≡ judgeAt s word
+pub judge-by : (s : Scan) (word : ℕ) {t : Step} → stepAt s word ≡ t → judgeAt s word ≡ withItem word t
 unfolding judgeAt
 judge-by s word e = ap (withItem word) e
 

@@ -12,7 +12,7 @@ use Rattle.reader.specs.RunLaws.{cons-at}
 use Rattle.reader.specs.declared.Scan.{Scan}
 use Rattle.reader.specs.declared.Step.{Step}
 use Rattle.reader.specs.declared.Judged.{Judged}
-use Rattle.records.specs.declared.answer.Pairing.the-variants as G
+use Rattle.records.specs.declared.raw_item.Pairing.the-variants as G
 use Rattle.records.specs.Next.{pairDue, onPair, pairsFrom, onHigh, timeFrom, onFiller, fillersFrom, onJudged, nextFrom}
 
 -- the words from i on, of which x was said at i

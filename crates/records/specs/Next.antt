@@ -17,8 +17,8 @@ use Rattle.reader.specs.declared.Step.the-variants as S
 use Rattle.reader.specs.declared.Judged.{Judged}
 use Rattle.reader.specs.declared.Judged.the-variants as J
 use Rattle.records.specs.declared.answer.Pairs.{Pairs}
-use Rattle.records.specs.declared.answer.Pairing.{Pairing}
-use Rattle.records.specs.declared.answer.Pairing.the-variants as G
+use Rattle.records.specs.declared.raw_item.Pairing.{Pairing}
+use Rattle.records.specs.declared.raw_item.Pairing.the-variants as G
 use Rattle.records.specs.declared.answer.Record.{Record}
 use Rattle.records.specs.declared.answer.Record.the-variants as R
 use Rattle.records.specs.declared.answer.Next.{Next}
@@ -26,7 +26,7 @@ use Rattle.records.specs.declared.answer.Next.the-variants as N
 
 -- ---- the pairs of a raw item
 
--- a pair has to come: in type 4 all of its width, in type 6 at least one, then as long as the next word is a continuation
+-- "Type 4 has ceil(width/2) pairs, type 6 has 1 to 250": a pair has to come, in type 6 a first one, then while the next word goes on
 abbrev pub pairDue : Phase → Bool → Bool
 pairDue P.Start more = false
 pairDue P.Head more = false

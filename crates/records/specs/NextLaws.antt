@@ -21,7 +21,7 @@ use Rattle.items.specs.declared.Form.the-variants as F
 use Rattle.items.specs.declared.Item.{Item}
 use Rattle.items.specs.declared.Item.the-variants as I
 use Rattle.reader.specs.Reader.{mostPairs, moreIn, allowedIn, otherIn, formIn, formAt, isNo, isEnd, unfinished, filled, onward, after, stepAt, withItem, judgeAt, Whole, Broken, endOf, endNumber, just, then, Reading, readFrom, atLimit}
-use Rattle.reader.specs.ReaderLaws.{Accepted, accepted, filler-tail}
+use Rattle.reader.specs.ReaderLaws.{judge-by, Accepted, accepted, filler-tail}
 use Rattle.reader.specs.RunLaws.{before, read-at, end-by}
 use Rattle.reader.specs.declared.Phase.{Phase}
 use Rattle.reader.specs.declared.Phase.the-variants as P
@@ -31,18 +31,13 @@ use Rattle.reader.specs.declared.Step.the-variants as S
 use Rattle.reader.specs.declared.Judged.{Judged}
 use Rattle.reader.specs.declared.Judged.the-variants as J
 use Rattle.records.specs.declared.answer.Pairs.{Pairs}
-use Rattle.records.specs.declared.answer.Pairing.{Pairing}
-use Rattle.records.specs.declared.answer.Pairing.the-variants as G
+use Rattle.records.specs.declared.raw_item.Pairing.{Pairing}
+use Rattle.records.specs.declared.raw_item.Pairing.the-variants as G
 use Rattle.records.specs.declared.answer.Record.{Record}
 use Rattle.records.specs.declared.answer.Record.the-variants as R
 use Rattle.records.specs.declared.answer.Next.{Next}
 use Rattle.records.specs.declared.answer.Next.the-variants as N
 use Rattle.records.specs.Next.{pairDue, onPair, pairsFrom, withPairs, onHigh, withHigh, timeFrom, onFiller, fillersFrom, recordFrom, onJudged, nextFrom}
-
--- the judgement of a word whose step is known
-judge-is : (s : Scan) (word : ℕ) {y : Step} → stepAt s word ≡ y → judgeAt s word ≡ withItem word y
-unfolding judgeAt
-judge-is s word e = ap (withItem word) e
 
 -- ---- where a pair is due, only a pair is taken
 
@@ -80,7 +75,7 @@ pair-taken t word {f} {u} due e =
     let a = accepted t word e in
     let ok : isNo f ≡ false = a .off .1 .0 in
     let is : f ≡ F.Pair = sym (a .form) ∙ pair-form (t .phase) (read 31 31 word) (read 30 27 word) due (ap isNo (a .form) ∙ ok) in
-    judge-is t word e ∙ ap (λ (g : Form). J.Took (itemFrom g word) u) is
+    judge-by t word e ∙ ap (λ (g : Form). J.Took (itemFrom g word) u) is
 
 -- ---- behind the trailer, only a filler of the block's slot is taken
 
@@ -211,7 +206,7 @@ pairs-say t n (word ∷ words) h = by-due (pairDue (t .phase) (isContinuation wo
               run = run ∙ ap (then (I.Pair (pairOf word))) (a .run);
             }
         more (G.Bad k at) a = ap (λ (x : Reading). x .out) run ∙ a
-    by-step (S.Refused k) e due r = ap (λ (x : Reading). x .out) (read-at t word words (judge-is t word e))
+    by-step (S.Refused k) e due r = ap (λ (x : Reading). x .out) (read-at t word words (judge-by t word e))
     by-step S.Ended e due r = no-pair t n (word ∷ words) h
 
     by-due : (b : Bool) → pairDue (t .phase) (isContinuation word) ≡ b → ((u : Scan) → SaysPairs u (onward n) words (pairsFrom u (onward n) words)) → SaysPairs t n (word ∷ words) (cond b (onPair (stepAt t word) t n (λ u. pairsFrom u (onward n) words)) (G.All n t))
@@ -254,7 +249,7 @@ fillers-say slot n t (word ∷ words) h end same = go (stepAt t word) refl (λ u
           items = itemFrom F.Filler word ∷ b .items;
           all = (ap (λ (k : ℕ). fillerAt k) (a .own ∙ same), b .all);
           many = onward-add n (length (b .items)) (b .count) (b .many);
-          run = read-at t word words (judge-is t word went) ∙ ap (then (itemFrom F.Filler word)) (b .run);
+          run = read-at t word words (judge-by t word went) ∙ ap (then (itemFrom F.Filler word)) (b .run);
         }
     go (S.Refused k) e r = no-filler slot n t (word ∷ words) h
     go S.Ended e r = no-filler slot n t (word ∷ words) h
@@ -383,24 +378,24 @@ next-says s [] = go (eqb (endNumber s) 0) refl
 next-says s (word ∷ words) = by-step (stepAt s word) refl
   where
     by-form : (f : Form) (t : Scan) → stepAt s word ≡ S.Went f t → Accepted s word f t → t .place ≡ onward (s .place) → SaysNext s (word ∷ words) (recordFrom (itemFrom f word) t words)
-    by-form F.Block t e a at = one s t word words (I.Block (blockHeaderOf word)) (R.Block (blockHeaderOf word)) refl (judge-is s word e)
-    by-form F.Parameters t e a at = one s t word words (I.Parameters (parametersOf word)) (R.Parameters (parametersOf word)) refl (judge-is s word e)
-    by-form F.Trailer t e a at = one s t word words (I.Trailer (trailerOf word)) (R.Trailer (trailerOf word)) refl (judge-is s word e)
-    by-form F.Event t e a at = one s t word words (I.Event (eventHeaderOf word)) (R.Event (eventHeaderOf word)) refl (judge-is s word e)
-    by-form F.Clock t e a at = time-says s t word words (triggerTimeOf word) (judge-is s word e)
-    by-form F.ClockHigh t e a at = one s t word words (I.ClockHigh (triggerTimeHighOf word)) (R.TimeHigh (triggerTimeHighOf word)) refl (judge-is s word e)
-    by-form F.Window t e a at = raw-says s t word words (I.Window (windowOf word)) (λ p. R.Window (windowOf word) p) (λ p items m. m) at (judge-is s word e)
-    by-form F.Raw t e a at = raw-says s t word words (I.Raw (pulseRawOf word)) (λ p. R.Raw (pulseRawOf word) p) (λ p items m. m) at (judge-is s word e)
-    by-form F.Pair t e a at = one s t word words (I.Pair (pairOf word)) (R.Pair (pairOf word)) refl (judge-is s word e)
-    by-form F.Integral t e a at = one s t word words (I.Integral (integralOf word)) (R.Integral (integralOf word)) refl (judge-is s word e)
-    by-form F.Time t e a at = one s t word words (I.Time (timeOf word)) (R.Time (timeOf word)) refl (judge-is s word e)
-    by-form F.Pedestal t e a at = one s t word words (I.Pedestal (pedestalOf word)) (R.Pedestal (pedestalOf word)) refl (judge-is s word e)
-    by-form F.Empty t e a at = one s t word words (I.Empty (emptyOf word)) (R.Empty (emptyOf word)) refl (judge-is s word e)
-    by-form F.Filler t e a at = fillers-make s t word words (filler-tail s word (a .form)) a (judge-is s word e)
+    by-form F.Block t e a at = one s t word words (I.Block (blockHeaderOf word)) (R.Block (blockHeaderOf word)) refl (judge-by s word e)
+    by-form F.Parameters t e a at = one s t word words (I.Parameters (parametersOf word)) (R.Parameters (parametersOf word)) refl (judge-by s word e)
+    by-form F.Trailer t e a at = one s t word words (I.Trailer (trailerOf word)) (R.Trailer (trailerOf word)) refl (judge-by s word e)
+    by-form F.Event t e a at = one s t word words (I.Event (eventHeaderOf word)) (R.Event (eventHeaderOf word)) refl (judge-by s word e)
+    by-form F.Clock t e a at = time-says s t word words (triggerTimeOf word) (judge-by s word e)
+    by-form F.ClockHigh t e a at = one s t word words (I.ClockHigh (triggerTimeHighOf word)) (R.TimeHigh (triggerTimeHighOf word)) refl (judge-by s word e)
+    by-form F.Window t e a at = raw-says s t word words (I.Window (windowOf word)) (λ p. R.Window (windowOf word) p) (λ p items m. m) at (judge-by s word e)
+    by-form F.Raw t e a at = raw-says s t word words (I.Raw (pulseRawOf word)) (λ p. R.Raw (pulseRawOf word) p) (λ p items m. m) at (judge-by s word e)
+    by-form F.Pair t e a at = one s t word words (I.Pair (pairOf word)) (R.Pair (pairOf word)) refl (judge-by s word e)
+    by-form F.Integral t e a at = one s t word words (I.Integral (integralOf word)) (R.Integral (integralOf word)) refl (judge-by s word e)
+    by-form F.Time t e a at = one s t word words (I.Time (timeOf word)) (R.Time (timeOf word)) refl (judge-by s word e)
+    by-form F.Pedestal t e a at = one s t word words (I.Pedestal (pedestalOf word)) (R.Pedestal (pedestalOf word)) refl (judge-by s word e)
+    by-form F.Empty t e a at = one s t word words (I.Empty (emptyOf word)) (R.Empty (emptyOf word)) refl (judge-by s word e)
+    by-form F.Filler t e a at = fillers-make s t word words (filler-tail s word (a .form)) a (judge-by s word e)
     by-form F.No t e a at = absurd (false≢true (sym (a .off .1 .0)))
     by-form F.End t e a at = absurd (false≢true (sym (a .here)))
 
     by-step : (y : Step) → stepAt s word ≡ y → SaysNext s (word ∷ words) (onJudged (withItem word y) (s .place) words)
     by-step (S.Went f t) e = let a = accepted s word e in by-form f t e a (place-after s t (itemFrom f word) (a .scan))
-    by-step (S.Refused n) e = ap (λ (x : Reading). x .out) (read-at s word words (judge-is s word e))
-    by-step S.Ended e = read-at s word words (judge-is s word e)
+    by-step (S.Refused n) e = ap (λ (x : Reading). x .out) (read-at s word words (judge-by s word e))
+    by-step S.Ended e = read-at s word words (judge-by s word e)

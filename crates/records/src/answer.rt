@@ -47,9 +47,3 @@ pub enum Next {
     End(u32),
     Refused(u32, u32),
 }
-
-// The pairs of a raw item: all of them and the scan behind, or a refusal and its place.
-pub enum Pairing {
-    All(u32, Scan),
-    Bad(u32, u32),
-}

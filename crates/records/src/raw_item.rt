@@ -4,7 +4,6 @@ ghost use mathlib.Core.Path.{_≡_};
 ghost use lib.ListN.{drop};
 ghost use Rattle.records.specs.Next.{pairDue, pairsFrom, recordFrom};
 use crate::answer::Next;
-use crate::answer::Pairing;
 use crate::answer::Pairs;
 use crate::answer::Record;
 use crate::more;
@@ -14,6 +13,12 @@ use raw::window::WindowRaw;
 use reader::Phase;
 use reader::Scan;
 use reader::Step;
+
+// The pairs of a raw item: all of them and the scan behind, or a refusal and its place.
+pub enum Pairing {
+    All(u32, Scan),
+    Bad(u32, u32),
+}
 
 // Whether a pair has to come; `going` says that the next word is a continuation.
 fn pair_due(p: Phase, going: bool) -> bool
