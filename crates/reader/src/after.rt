@@ -37,7 +37,7 @@ fn window_phase(width: u32) -> Phase
     Phase::Window(width / 2 + width % 2, width % 2 == 1)
 }
 
-pub fn window_paired(n: u32, odd: bool) -> Phase
+pub(crate) fn window_paired(n: u32, odd: bool) -> Phase
     ensures { λ r. ⌜ r ≡ cond (leb n 1) Phase.Items (Phase.Window (n - 1) odd) ⌝ }
 {
     if n <= 1 {
@@ -115,7 +115,7 @@ fn opened(scan: Scan) -> Scan
 }
 
 // Behind any other word: the phase alone changes.
-pub fn moved(scan: Scan, phase: Phase) -> Scan
+pub(crate) fn moved(scan: Scan, phase: Phase) -> Scan
     ensures { λ r. ⌜ r ≡ record { place = onward (scan .place); slot = scan .slot; left = scan .left; phase = phase } ⌝ }
 {
     Scan {
@@ -126,7 +126,7 @@ pub fn moved(scan: Scan, phase: Phase) -> Scan
     }
 }
 
-pub fn scan_after(scan: Scan, form: Form, word: u32) -> Scan
+pub(crate) fn scan_after(scan: Scan, form: Form, word: u32) -> Scan
     ensures { λ r. ⌜ r ≡ after scan (itemFrom form word) ⌝ }
 {
     let p = scan.phase;

@@ -114,7 +114,7 @@ fn type_form(p: Phase, tag: u32) -> Form
     }
 }
 
-pub fn form_at(scan: Scan, word: u32) -> Form
+pub(crate) fn form_at(scan: Scan, word: u32) -> Form
     ensures { λ r. ⌜ r ≡ formAt scan word ⌝ }
 {
     let p = scan.phase;
@@ -126,7 +126,7 @@ pub fn form_at(scan: Scan, word: u32) -> Form
 }
 
 // Whether the block ends before a word of that form.
-pub fn is_end(form: Form) -> bool
+pub(crate) fn is_end(form: Form) -> bool
     ensures { λ r. ⌜ r ≡ isEnd form ⌝ }
 {
     match form {

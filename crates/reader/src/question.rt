@@ -26,7 +26,7 @@ use raw::window::WindowRaw;
 const PLACE_MAX: u32 = 4194303;
 
 // Whether the trailer is still to come.
-pub fn is_unfinished(p: Phase) -> bool
+pub(crate) fn is_unfinished(p: Phase) -> bool
     ensures { λ r. ⌜ r ≡ unfinished p ⌝ }
 {
     match p {
@@ -42,7 +42,7 @@ pub fn is_unfinished(p: Phase) -> bool
     }
 }
 
-pub fn at_limit(scan: Scan) -> bool
+pub(crate) fn at_limit(scan: Scan) -> bool
     ensures { λ r. ⌜ r ≡ atLimit scan ⌝ }
 {
     let p = scan.phase;
@@ -98,7 +98,7 @@ fn window_wrong(word: u32) -> bool
 }
 
 // The flag that a window's pair must have: only the last of an odd width has it.
-pub fn window_flag_wrong(n: u32, odd: bool, flag: u32) -> bool
+pub(crate) fn window_flag_wrong(n: u32, odd: bool, flag: u32) -> bool
     ensures { λ r. ⌜ r ≡ flagWrong (Phase.Window n odd) flag ⌝ }
 {
     if (n == 1) & odd {
@@ -124,7 +124,7 @@ fn flag_wrong(p: Phase, flag: u32) -> bool
 }
 
 // A pair's bits, where its second flag was compared.
-pub fn pair_bits_wrong(word: u32, flag: bool) -> bool
+pub(crate) fn pair_bits_wrong(word: u32, flag: bool) -> bool
     ensures { λ r. ⌜ r ≡ not (pairFixed word) || (not (eqb (read 29 29 word) 0) || ((eqb (read 13 13 word) 1 && not (eqb (read 12 0 word) 0)) || flag)) ⌝ }
 {
     let pair = SamplePair::take_apart(word);
@@ -162,7 +162,7 @@ fn first_wrong(slot: bool, bits: bool, count: bool) -> u32
 
 // The questions behind the limit: the number of the first that refuses, 0 where none does. A form is asked only what it
 // can answer wrong.
-pub fn refusal(scan: Scan, form: Form, word: u32) -> u32
+pub(crate) fn refusal(scan: Scan, form: Form, word: u32) -> u32
     ensures { λ r. ⌜ r ≡ firstOf (drop 1 (refusals scan form word)) ⌝ }
 {
     match form {

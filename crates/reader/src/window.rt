@@ -11,7 +11,7 @@ use crate::question;
 use items::Form;
 
 // What is asked behind the limit, and the scan after.
-pub fn window_step(scan: Scan, n: u32, odd: bool, word: u32) -> Step
+pub(crate) fn window_step(scan: Scan, n: u32, odd: bool, word: u32) -> Step
     requires { ⌜ scan .phase ≡ Phase.Window n odd ⌝ }
     ensures { λ r. ⌜ r ≡ stepBy scan (formAt scan word) word (firstOf (drop 1 (refusals scan (formAt scan word) word))) ⌝ }
 {

@@ -80,7 +80,7 @@ fn pairs_from(words: &[u32], from: usize, scan: Scan) -> Pairing
     pairs_end(t, count)
 }
 
-pub fn window_from(words: &[u32], from: usize, window: WindowRaw, scan: Scan) -> Next
+pub(crate) fn window_from(words: &[u32], from: usize, window: WindowRaw, scan: Scan) -> Next
     ensures { λ r. ⌜ r ≡ recordFrom (Item.Window window) scan (drop from (now (words .entry))) ⌝ }
 {
     let pairs = pairs_from(words, from, scan);
@@ -96,7 +96,7 @@ pub fn window_from(words: &[u32], from: usize, window: WindowRaw, scan: Scan) ->
     }
 }
 
-pub fn raw_from(words: &[u32], from: usize, raw: PulseRaw, scan: Scan) -> Next
+pub(crate) fn raw_from(words: &[u32], from: usize, raw: PulseRaw, scan: Scan) -> Next
     ensures { λ r. ⌜ r ≡ recordFrom (Item.Raw raw) scan (drop from (now (words .entry))) ⌝ }
 {
     let pairs = pairs_from(words, from, scan);
