@@ -3,3 +3,4 @@ pub mod Order
 pub mod OrderLaws
 pub mod Own
 pub mod OwnLaws
+pub mod FirstWrong

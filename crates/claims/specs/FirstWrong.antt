@@ -1,0 +1,207 @@
+-- Demand 2: "a block that breaks the layout is refused at its first wrong word": a refusal at place p depends on the words up to p alone, and the
+-- records before it are those of the words before p. Assumes nothing.
+use Prim.Native.Nat.{ℕ, zero, suc, _+_, _-_, _≤_, _<_}
+use mathlib.Core.Path.{_≡_, refl, sym, ap, _∙_}
+use mathlib.Core.Bool.{Bool, true, false, cond, true≢false}
+use mathlib.Core.List.{List, [], _∷_}
+use native.Mathlib.Omega.{arith}
+use borrow.Author.Tests.{eqb-false, ne-eqb}
+use lib.Dec.{eqb, leb}
+use lib.ListN.{length, take}
+use Rattle.fields.specs.Word.{read}
+use Rattle.items.specs.Items.{itemFrom}
+use Rattle.items.specs.declared.Form.{Form}
+use Rattle.items.specs.declared.Form.the-variants as F
+use Rattle.items.specs.declared.Item.{Item}
+use Rattle.items.specs.declared.Item.the-variants as I
+use Rattle.reader.specs.declared.Phase.{Phase}
+use Rattle.reader.specs.declared.Phase.the-variants as P
+use Rattle.reader.specs.declared.Scan.{Scan}
+use Rattle.reader.specs.declared.Step.{Step}
+use Rattle.reader.specs.declared.Step.the-variants as S
+use Rattle.reader.specs.declared.Judged.{Judged}
+use Rattle.reader.specs.declared.Judged.the-variants as J
+use Rattle.reader.specs.Reader.{formIn, formAt, unfinished, atLimit, isEnd, onward, paired, filled, phaseAfter, after, stepAt, withItem, judgeAt, startOf, Out, Whole, Broken, endOf, then, onJudged, readFrom}
+use Rattle.reader.specs.ReaderLaws.{Accepted, accepted}
+
+-- a run that stops before the end of its input is the same on every input that begins alike, up to the word where it stops
+same-start : (s : Scan) (x y : List ℕ) → length ((readFrom s x) .items) < length x
+    → take (suc (length ((readFrom s x) .items))) y ≡ take (suc (length ((readFrom s x) .items))) x → readFrom s y ≡ readFrom s x
+unfolding readFrom
+same-start s [] y h e = absurd (omega arith)
+same-start s (w ∷ x) [] h e = let z : _≡_ {A = ℕ} 0 1 = cc in absurd (omega arith)
+same-start s (w ∷ x) (v ∷ y) h e =
+    let q : v ≡ w = cc in
+    let r : take (length ((readFrom s (w ∷ x)) .items)) y ≡ take (length ((readFrom s (w ∷ x)) .items)) x = cc in
+    ap (λ (u : ℕ). onJudged (judgeAt s u) (s .place) (λ t. readFrom t y)) q ∙ go (judgeAt s w) h r (λ t. same-start t x y)
+  where
+    go : (j : Judged) → length ((onJudged j (s .place) (λ t. readFrom t x)) .items) < length (w ∷ x)
+        → take (length ((onJudged j (s .place) (λ t. readFrom t x)) .items)) y ≡ take (length ((onJudged j (s .place) (λ t. readFrom t x)) .items)) x
+        → ((t : Scan) → length ((readFrom t x) .items) < length x → take (suc (length ((readFrom t x) .items))) y ≡ take (suc (length ((readFrom t x) .items))) x → readFrom t y ≡ readFrom t x)
+        → onJudged j (s .place) (λ t. readFrom t y) ≡ onJudged j (s .place) (λ t. readFrom t x)
+    go (J.Took a t) h r n = ap (then a) (n t (omega arith) r)
+    go (J.Refused k) h r n = refl
+    go J.Ended h r n = refl
+
+-- ---- places count the words
+
+-- fillers that may come
+abbrev cap : Phase → ℕ
+cap P.Start = 3
+cap P.Head = 3
+cap P.Front = 3
+cap P.Opened = 3
+cap (P.Timed d) = 3
+cap P.Items = 3
+cap (P.Window n odd) = 3
+cap (P.Raw n) = 3
+cap (P.Tail n) = n
+
+-- no trailer was read and the place is within the limit, or it was and at most three words came after
+abbrev Placed : Scan → Type 0
+Placed s = s .place + cap (s .phase) ≤ 4194306
+
+cap-three : (p : Phase) → unfinished p ≡ true → cap p ≡ 3
+cap-three P.Start h = refl
+cap-three P.Head h = refl
+cap-three P.Front h = refl
+cap-three P.Opened h = refl
+cap-three (P.Timed d) h = refl
+cap-three P.Items h = refl
+cap-three (P.Window n odd) h = refl
+cap-three (P.Raw n) h = refl
+cap-three (P.Tail n) h = absurd (true≢false (sym h))
+
+cap-window : (b : Bool) (n : ℕ) (odd : Bool) → cap (cond b P.Items (P.Window n odd)) ≡ 3
+cap-window true n odd = refl
+cap-window false n odd = refl
+
+cap-paired : (p : Phase) (flag : ℕ) → cap (paired p flag) ≡ cap p
+cap-paired P.Start flag = refl
+cap-paired P.Head flag = refl
+cap-paired P.Front flag = refl
+cap-paired P.Opened flag = refl
+cap-paired (P.Timed d) flag = refl
+cap-paired P.Items flag = refl
+cap-paired (P.Window n odd) flag = cap-window (leb n 1) (n - 1) odd
+cap-paired (P.Raw n) flag = refl
+cap-paired (P.Tail n) flag = refl
+
+cap-filled : (p : Phase) → unfinished p ≡ true → cap (filled p) ≡ cap p
+cap-filled P.Start h = refl
+cap-filled P.Head h = refl
+cap-filled P.Front h = refl
+cap-filled P.Opened h = refl
+cap-filled (P.Timed d) h = refl
+cap-filled P.Items h = refl
+cap-filled (P.Window n odd) h = refl
+cap-filled (P.Raw n) h = refl
+cap-filled (P.Tail n) h = absurd (true≢false (sym h))
+
+cap-after : (s : Scan) (x : Item) → unfinished (s .phase) ≡ true → cap (phaseAfter s x) ≤ 3
+cap-after s (I.Block r) h = omega arith
+cap-after s (I.Parameters r) h = omega arith
+cap-after s (I.Trailer r) h = omega arith
+cap-after s (I.Event r) h = omega arith
+cap-after s (I.Clock r) h = omega arith
+cap-after s (I.ClockHigh r) h = omega arith
+cap-after s (I.Window r) h = omega arith
+cap-after s (I.Raw r) h = omega arith
+cap-after s (I.Pair r) h = omega (arith, cap-paired (s .phase) (r .nosecond), cap-three (s .phase) h)
+cap-after s (I.Integral r) h = omega arith
+cap-after s (I.Time r) h = omega arith
+cap-after s (I.Pedestal r) h = omega arith
+cap-after s (I.Empty r) h = omega arith
+cap-after s (I.Filler r) h = omega (arith, cap-filled (s .phase) h, cap-three (s .phase) h)
+
+-- in the tail only a filler stands, where one may
+tail-in : (n k : ℕ) (f : Form) → formIn F.End (cond (eqb n 0) [] (F.Filler ∷ [])) k ≡ f → isEnd f ≡ false → (f ≡ F.Filler) × (0 < n)
+tail-in zero k f e h = absurd (true≢false (ap isEnd e ∙ h))
+tail-in (suc n) k f e h = go (eqb k 15) (rw (ne-eqb (suc n) 0 (λ z. omega arith)) at e)
+  where
+    go : (b : Bool) → cond b F.Filler F.End ≡ f → (f ≡ F.Filler) × (0 < suc n)
+    go true e = (sym e, omega arith)
+    go false e = absurd (true≢false (ap isEnd e ∙ h))
+
+tail-only : (s : Scan) (n word : ℕ) (f : Form) → s .phase ≡ P.Tail n → formAt s word ≡ f → isEnd f ≡ false → (f ≡ F.Filler) × (0 < n)
+unfolding formAt
+tail-only s n word f p e h = go (eqb (read 31 31 word) 0) (rw p at e)
+  where
+    go : (b : Bool) → cond b F.End (formIn F.End (cond (eqb n 0) [] (F.Filler ∷ [])) (read 30 27 word)) ≡ f → (f ≡ F.Filler) × (0 < n)
+    go true e = absurd (true≢false (ap isEnd e ∙ h))
+    go false e = tail-in n (read 30 27 word) f e h
+
+-- below the limit, where no trailer was read
+not-limit : (s : Scan) → atLimit s ≡ false → unfinished (s .phase) ≡ true → s .place ≡ 4194303 → ⊥
+unfolding atLimit
+not-limit s h u e = eqb-false (s .place) 4194303 (rw u at h) e
+
+record Onward (s u : Scan) : Type 0 where
+  placed : Placed u
+  next : u .place ≡ s .place + 1
+
+-- an accepted word is one place on
+placed-after : (s : Scan) (word : ℕ) (f : Form) (u : Scan) → Placed s → Accepted s word f u → Onward s u
+unfolding after onward
+placed-after s word f u p a =
+    let next : u .place ≡ s .place + 1 = ap (λ (t : Scan). t .place) (a .scan) ∙ omega arith in
+    let phase : u .phase ≡ phaseAfter s (itemFrom f word) = ap (λ (t : Scan). t .phase) (a .scan) in
+    record { placed = go (s .phase) refl next phase; next = next }
+  where
+    open-phase : (q : Phase) → s .phase ≡ q → unfinished q ≡ true → u .place ≡ s .place + 1 → u .phase ≡ phaseAfter s (itemFrom f word) → Placed u
+    open-phase q e v next phase =
+        let o : unfinished (s .phase) ≡ true = ap unfinished e ∙ v in
+        let n : s .place ≡ 4194303 → ⊥ = not-limit s (a .off .0) o in
+        omega (arith, next, ap cap phase, cap-after s (itemFrom f word) o, cap-three (s .phase) o, n)
+
+    go : (q : Phase) → s .phase ≡ q → u .place ≡ s .place + 1 → u .phase ≡ phaseAfter s (itemFrom f word) → Placed u
+    go P.Start e next phase = open-phase P.Start e refl next phase
+    go P.Head e next phase = open-phase P.Head e refl next phase
+    go P.Front e next phase = open-phase P.Front e refl next phase
+    go P.Opened e next phase = open-phase P.Opened e refl next phase
+    go (P.Timed d) e next phase = open-phase (P.Timed d) e refl next phase
+    go P.Items e next phase = open-phase P.Items e refl next phase
+    go (P.Window n odd) e next phase = open-phase (P.Window n odd) e refl next phase
+    go (P.Raw n) e next phase = open-phase (P.Raw n) e refl next phase
+    go (P.Tail n) e next phase =
+        let t = tail-only s n word f e (a .form) (a .here) in
+        let d : cap (u .phase) ≡ n - 1 = ap cap (phase ∙ ap (λ (g : Form). phaseAfter s (itemFrom g word)) (t .0) ∙ ap filled e) in
+        omega (arith, next, d, ap cap e, t .1)
+
+abbrev pub placeOf : Out → ℕ
+placeOf (Whole n) = n
+placeOf (Broken n p) = p
+
+place-end : (s : Scan) → placeOf (endOf s) ≡ s .place
+unfolding endOf
+place-end s = go (atLimit s) (unfinished (s .phase))
+  where
+    go : (a b : Bool) → placeOf (cond a (Broken 14 (s .place)) (cond b (Broken 11 (s .place)) (Whole (s .place)))) ≡ s .place
+    go true b = refl
+    go false true = refl
+    go false false = refl
+
+-- the place where a run ends, refused or not, is the number of the records read before it
+place-counts : (s : Scan) (ws : List ℕ) → Placed s → placeOf ((readFrom s ws) .out) ≡ s .place + length ((readFrom s ws) .items)
+unfolding readFrom judgeAt
+place-counts s [] p = place-end s ∙ omega arith
+place-counts s (w ∷ ws) p = go (stepAt s w) refl (λ t. place-counts t ws)
+  where
+    go : (j : Step) → stepAt s w ≡ j → ((t : Scan) → Placed t → placeOf ((readFrom t ws) .out) ≡ t .place + length ((readFrom t ws) .items))
+        → placeOf ((onJudged (withItem w j) (s .place) (λ t. readFrom t ws)) .out) ≡ s .place + length ((onJudged (withItem w j) (s .place) (λ t. readFrom t ws)) .items)
+    go (S.Went f t) e n =
+        let o = placed-after s w f t p (accepted s w e) in
+        omega (arith, n t (o .placed), o .next)
+    go (S.Refused k) e n = omega arith
+    go S.Ended e n = omega arith
+
+-- "refused at its first wrong word": every input with the same first p + 1 words has the same records before and the same number at p
+pub first-wrong-word : (x y : List ℕ) (n p : ℕ) → (readFrom startOf x) .out ≡ Broken n p → p < length x → take (suc p) y ≡ take (suc p) x
+    → readFrom startOf y ≡ readFrom startOf x
+first-wrong-word x y n p e h q =
+    let c : p ≡ length ((readFrom startOf x) .items) = sym (ap placeOf e) ∙ place-counts startOf x (omega arith) ∙ omega arith in
+    same-start startOf x y (omega arith) (ap (λ (k : ℕ). take (suc k) y) (sym c) ∙ q ∙ ap (λ (k : ℕ). take (suc k) x) c)
+
+-- a record is a word: the records before a refusal, or of a whole block, are as many as the words before it
+pub records-before : (x : List ℕ) → placeOf ((readFrom startOf x) .out) ≡ length ((readFrom startOf x) .items)
+records-before x = place-counts startOf x (omega arith) ∙ omega arith
