@@ -4,3 +4,4 @@ pub mod OrderLaws
 pub mod Own
 pub mod OwnLaws
 pub mod FirstWrong
+pub mod NothingLost
