@@ -1,0 +1,3 @@
+-- What the lister prints, and its laws.
+pub mod Lines
+pub mod LinesLaws
