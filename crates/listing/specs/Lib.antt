@@ -1,3 +1,5 @@
 -- What the lister prints, and its laws.
 pub mod Lines
 pub mod LinesLaws
+pub mod Says
+pub mod BlockLaws

@@ -208,11 +208,14 @@ blockLines r = itemLines (r .items) ++ (fillLines (fillersIn (r .items)) ++ outL
 
 -- ---- the lines of an input
 
--- "Blocks follow each other to the end of input": a block is read, then the next behind its words; `skip` words still belong to the one before
+-- a block's lines, and where it is whole those behind its words
+abbrev pub blockThen : Reading → (ℕ → List Line) → List Line
+blockThen r behind = blockLines r ++ cond (isWhole (r .out)) (behind (length (r .items) - 1)) []
+
+-- "Blocks follow each other to the end of input": `skip` words still belong to the block before
 unfoldable pub linesFrom : ℕ → List ℕ → List Line
 linesFrom skip [] = []
-linesFrom zero (word ∷ words) = blockLines (readFrom startOf (word ∷ words))
-    ++ cond (isWhole ((readFrom startOf (word ∷ words)) .out)) (linesFrom (length ((readFrom startOf (word ∷ words)) .items) - 1) words) []
+linesFrom zero (word ∷ words) = blockThen (readFrom startOf (word ∷ words)) (λ skip. linesFrom skip words)
 linesFrom (suc skip) (word ∷ words) = linesFrom skip words
 
 -- 16: "byte input: length no multiple of 4; lister also over 65,536 bytes"
