@@ -3,3 +3,5 @@ pub mod Lines
 pub mod LinesLaws
 pub mod Says
 pub mod BlockLaws
+pub mod RoomLaws
+pub mod MostLaws

@@ -180,10 +180,11 @@ fn list_blocks(bytes: &[u8], text: &mut [u8]) -> usize
     while 4 <= bytes.len() - next {
         let block = list_block(&bytes[next..], text, at);
         at = block.at;
-        if !block.whole {
+        if block.whole {
+            next += block.bytes;
+        } else {
             return at;
         }
-        next += block.bytes;
     }
     at
 }

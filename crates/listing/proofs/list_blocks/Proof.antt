@@ -1,66 +1,59 @@
+-- `listing::list_blocks` meets its contract: the blocks that are left, put where the text stands, give them all.
+use Prim.Native.Nat.{_-_, _≤_}
+use mathlib.Core.Path.{_≡_, refl, sym, ap, _∙_}
+use mathlib.Core.List.{List}
+use native.Mathlib.Omega.{arith}
+use borrow.Author.Needs.{needs}
+use lib.ListN.{length, drop}
+use Rattle.host.specs.Check.{wordsOfBytes}
+use Rattle.text.specs.Page.{put}
+use Rattle.text.specs.Line.{textOf}
+use Rattle.text.specs.LineLaws.{say-none}
+use Rattle.listing.specs.Lines.{linesFrom}
+use Rattle.listing.specs.BlockLaws.{blocks-none, block-within, block-some, block-next, block-last}
 use Rattle.listing.proofs.list_blocks.Statement.{statement}
 use Rattle.listing.proofs.list_blocks.Tie as tie
-use Rattle.listing.proofs.list_blocks.Reads as reads
-use Rattle.listing.proofs.list_blocks.Lts as lts
-use Rattle.listing.proofs.list_block.Reads as list-block-reads
 
 abbrev Inv-loop : tie.InvT-loop
-Inv-loop bytes text₀ next₀ at₀ text next at = ?
+Inv-loop bytes text₀ next₀ at₀ text next at =
+    (next ≤ length bytes)
+    × (length text ≡ length text₀)
+    × (put (text₀, 0) (textOf (linesFrom 0 (wordsOfBytes bytes))) ≡ put (text, at) (textOf (linesFrom 0 (wordsOfBytes (drop next bytes)))))
 
 abbrev μ-loop : tie.MeasureT-loop
-μ-loop bytes text₀ next₀ at₀ text next at = ?
+μ-loop bytes text₀ next₀ at₀ text next at = length bytes - next
 
--- src/lib.rt:180:5
-loop-holds : tie.Need-loop-holds Inv-loop μ-loop
-loop-holds c = ?
-
--- src/lib.rt:180:16
-sub-loop : tie.Need-sub-loop Inv-loop μ-loop
-sub-loop c = ?
-
--- src/lib.rt:181:32
-sub-list-block : tie.Need-sub-list-block Inv-loop μ-loop
-sub-list-block c = ?
-
--- src/lib.rt:181:32
-part-list-block-start : tie.Need-part-list-block-start Inv-loop μ-loop
-part-list-block-start c = ?
-
--- src/lib.rt:181:32
-part-list-block-end : tie.Need-part-list-block-end Inv-loop μ-loop
-part-list-block-end c = ?
-
--- src/lib.rt:181:13
-list-block-requires : tie.Need-list-block-requires Inv-loop μ-loop
-list-block-requires c κs = ?
-
--- src/lib.rt:184:13
-same-length : tie.Need-same-length Inv-loop μ-loop
-same-length c = ?
-
--- src/lib.rt:184:13
-returns : tie.Need-returns Inv-loop μ-loop
-returns c = ?
-
--- src/lib.rt:186:9
 add-next : tie.Need-add-next Inv-loop μ-loop
-add-next c = ?
+add-next c =
+    let l = c .before .before .before .before .before .before .before .before .loop in
+    let bytes = c .before .before .before .before .before .before .before .before .before .before .before .args .bytes .now in
+    let says = c .before .before .before .before .list-block .ensures in
+    omega (arith, block-within bytes (l .next) (omega arith) says)
 
--- src/lib.rt:180:5
 loop-less : tie.Need-loop-less Inv-loop μ-loop
-loop-less c = ?
+loop-less c =
+    let l = c .before .before .before .before .before .before .before .before .loop in
+    let bytes = c .before .before .before .before .before .before .before .before .before .before .before .args .bytes .now in
+    let says = c .before .before .before .before .list-block .ensures in
+    omega (arith, block-within bytes (l .next) (omega arith) says, block-some bytes (l .next) (omega arith) says (c .before .if1 .taken))
 
--- src/lib.rt:180:5
 loop-again : tie.Need-loop-again Inv-loop μ-loop
-loop-again c = ?
+loop-again c =
+    let l = c .before .before .before .before .before .before .before .before .loop in
+    let bytes = c .before .before .before .before .before .before .before .before .before .before .before .args .bytes .now in
+    let says = c .before .before .before .before .list-block .ensures in
+    (block-within bytes (l .next) (omega arith) says, c .before .before .before .before .list-block .kept .1 .0 ∙ l .inv .1, l .inv .2 ∙ block-next bytes (l .next) (omega arith) says (c .before .if1 .taken))
 
--- src/lib.rt:175:1
-same-length-2 : tie.Need-same-length-2 Inv-loop μ-loop
-same-length-2 c = ?
+same-length : tie.Need-same-length Inv-loop μ-loop
+same-length c = c .before .before .before .list-block .kept .1 .0 ∙ c .before .before .before .before .before .before .before .loop .inv .1
 
--- src/lib.rt:175:1
+returns : tie.Need-returns Inv-loop μ-loop
+returns c =
+    let l = c .before .before .before .before .before .before .before .loop in
+    block-last (c .before .before .before .before .before .before .before .before .before .before .args .bytes .now) (l .next) (omega arith) (c .before .before .before .list-block .ensures) (c .if1 .left) ∙ sym (l .inv .2)
+
 returns-2 : tie.Need-returns-2 Inv-loop μ-loop
-returns-2 c = ?
+returns-2 c = sym (c .before .loop .inv .2 ∙ sym (say-none _ _ (blocks-none (c .before .before .before .before .args .bytes .now) (c .before .loop .next) (omega arith))))
 
 pub list-blocks-spec : {M : Type 1} → statement M
 list-blocks-spec =
@@ -68,16 +61,16 @@ list-blocks-spec =
     (tie.spec
     Inv-loop
     μ-loop
-    loop-holds
-    sub-loop
-    sub-list-block
-    part-list-block-start
-    part-list-block-end
-    list-block-requires
-    same-length
-    returns
+    (λ c. (omega arith, refl, refl))
+    (λ c. search needs)
+    (λ c. search needs)
+    (λ c. search needs)
+    (λ c. search needs)
+    (λ c κs. search needs)
     add-next
     loop-less
     loop-again
-    same-length-2
+    same-length
+    returns
+    (λ c. search needs)
     returns-2)

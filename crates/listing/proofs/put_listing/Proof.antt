@@ -1,3 +1,6 @@
+-- `listing::put_listing` meets its contract: refusal 16 alone, or all blocks.
+use Rattle.text.specs.LineLaws.{say-one}
+use Rattle.listing.specs.Lines.{linesOf, listingOf}
 use borrow.Author.Needs.{needs}
 use Rattle.listing.proofs.put_listing.Statement.{statement}
 use Rattle.listing.proofs.put_listing.Tie as tie
@@ -16,7 +19,8 @@ same-length c = search needs
 
 -- src/lib.rt:196:9
 returns : tie.Need-returns
-returns c = ?
+unfolding listingOf linesOf
+returns c = say-one _ _ _ _ (c .before .before .put-refused .ensures) (rw (c .before .before .before .before .if1 .taken))
 
 -- src/lib.rt:198:5
 list-blocks-requires : tie.Need-list-blocks-requires
@@ -28,7 +32,8 @@ same-length-2 c = search needs
 
 -- src/lib.rt:192:1
 returns-2 : tie.Need-returns-2
-returns-2 c = ?
+unfolding listingOf linesOf
+returns-2 c = rw (c .before .before .before .before .if1 .left) (c .before .before .list-blocks .ensures)
 
 pub put-listing-spec : {M : Type 1} → statement M
 put-listing-spec =
