@@ -18,7 +18,7 @@ use Rattle.reader.specs.declared.Scan.{Scan}
 use Rattle.reader.specs.declared.Step.the-variants as S
 use Rattle.reader.specs.declared.Judged.{Judged}
 use Rattle.reader.specs.declared.Judged.the-variants as J
-use Rattle.reader.specs.Reader.{isEnd, formAt, refusalOf, after, stepBy, stepAt, withItem, judgeAt, startOf, Out, Whole, Broken, endNumber, outOf, Reading, then, just, onJudged, readFrom}
+use Rattle.reader.specs.Reader.{isEnd, formAt, refusalOf, after, stepAt, withItem, judgeAt, startOf, Out, Broken, endNumber, outOf, Reading, then, just, onJudged, readFrom}
 use Rattle.reader.specs.RunLaws.{end-by}
 use Rattle.host.specs.Check.{wordsOfBytes}
 use Rattle.text.specs.Page.{Page, put}

@@ -5,3 +5,4 @@ pub mod Says
 pub mod BlockLaws
 pub mod RoomLaws
 pub mod MostLaws
+pub mod RunLaws

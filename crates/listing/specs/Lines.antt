@@ -20,7 +20,7 @@ use Rattle.items.specs.declared.Item.{Item}
 use Rattle.items.specs.declared.Item.the-variants as I
 use Rattle.reader.specs.Reader.{Out, Whole, Broken, Reading, startOf, readFrom}
 use Rattle.host.specs.Check.{wordsOfBytes}
-use Rattle.text.specs.Line.{Cell, Number, Dash, cellOf, Line, lineOf, textOf}
+use Rattle.text.specs.Line.{Number, cellOf, Line, lineOf, textOf}
 use Rattle.listing.specs.declared.Second.{Second}
 use Rattle.listing.specs.declared.Second.the-variants as S
 

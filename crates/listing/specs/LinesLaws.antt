@@ -1,12 +1,11 @@
 -- The laws of the lister's lines: a pair's dashes, and a block read word by word. Assumes nothing.
-use Prim.Native.Nat.{ℕ, zero, suc, _+_, _-_, _*_, _≤_, _<_}
+use Prim.Native.Nat.{ℕ, _+_, _-_, _*_}
 use mathlib.Core.Path.{_≡_, refl, sym, ap, ap₂, _∙_}
 use mathlib.Core.Bool.{Bool, true, false, cond}
-use mathlib.Core.List.{List, [], _∷_, _++_, append-assoc}
-use native.Mathlib.Omega.{arith}
+use mathlib.Core.List.{List, [], _∷_}
 use lib.Dec.{eqb}
 use Rattle.raw.specs.declared.pair.SamplePair.{SamplePair}
-use Rattle.text.specs.Line.{Cell, cellOf, cellsOf, Line, lineOf, lineText, textOf}
+use Rattle.text.specs.Line.{cellOf, cellsOf, Line, lineOf, lineText, textOf}
 use Rattle.text.specs.Page.{Page, put}
 use Rattle.text.specs.LineLaws.{say-none, say-one}
 use Rattle.items.specs.declared.Item.{Item}

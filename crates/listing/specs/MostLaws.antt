@@ -1,6 +1,6 @@
 -- How long a text can be: at most 23 bytes a word, and one refusal's line. Assumes nothing.
 use Prim.Native.Nat.{ℕ, zero, suc, _+_, _-_, _*_, _/_, _%_, _^_, _≤_, _<_}
-use mathlib.Core.Path.{_≡_, refl, sym, ap, _∙_}
+use mathlib.Core.Path.{_≡_, refl}
 use mathlib.Core.Bool.{Bool, true, false, cond, not, _||_}
 use mathlib.Core.List.{List, [], _∷_, _++_}
 use native.Mathlib.Omega.{arith}
@@ -22,8 +22,7 @@ use Rattle.items.specs.declared.Item.{Item}
 use Rattle.reader.specs.declared.Scan.{Scan}
 use Rattle.reader.specs.declared.Judged.{Judged}
 use Rattle.reader.specs.declared.Judged.the-variants as J
-use Rattle.reader.specs.Reader.{unfinished, atLimit, isEnd, isNo, slotWrong, itemWrong, countWrong, refusalOf, onward, after, formAt, stepAt, withItem, stepBy, judgeAt, startOf, Out, Whole, Broken, endOf, Reading, just, onJudged, readFrom}
-use Rattle.reader.specs.declared.Step.{Step}
+use Rattle.reader.specs.Reader.{unfinished, atLimit, isEnd, isNo, slotWrong, itemWrong, countWrong, refusalOf, onward, after, formAt, stepAt, withItem, judgeAt, startOf, Out, Whole, Broken, endOf, Reading, just, onJudged, readFrom}
 use Rattle.reader.specs.declared.Step.the-variants as S
 use Rattle.host.specs.Check.{wordsOfBytes}
 use Rattle.text.specs.Line.{Cell, Number, cellOf, Line, lineOf}

@@ -1,5 +1,5 @@
 -- A text is put on no page first, and so counted; then in the buffer where it fits. Assumes nothing.
-use Prim.Native.Nat.{ℕ, _≤_, _<_, min}
+use Prim.Native.Nat.{ℕ, _≤_, _<_}
 use mathlib.Core.Path.{_≡_, refl, sym, ap, _∙_}
 use mathlib.Core.Bool.{Bool, true, false, cond}
 use mathlib.Core.List.{List, [], _∷_, _++_}
@@ -13,7 +13,7 @@ use Rattle.text.specs.Page.{Page, farthest, put}
 use Rattle.text.specs.PageLaws.{put-length, put-all, place-all}
 use Rattle.listing.specs.declared.Listed.{Listed}
 use Rattle.listing.specs.declared.Listed.the-variants as L
-use Rattle.listing.specs.Says.{answerOf, leftOf, Says}
+use Rattle.listing.specs.Says.{Says}
 
 nil-of : (l : List ℕ) → length l ≡ 0 → l ≡ []
 nil-of [] e = refl

@@ -88,21 +88,37 @@ pub fn put_pair(text: &mut [u8], at: usize, r: SamplePair) -> usize
 pub fn put_integral(text: &mut [u8], at: usize, r: PulseIntegral) -> usize
     ensures { λ k. ⌜ (now (text .exit), k) ≡ put (now (text .entry), at) (lineText (integralLine r)) ⌝ }
 {
-    let cells = [r.channel as u64, r.pulse as u64, r.quality as u64, r.sum as u64];
+    let cells = [
+        r.channel as u64,
+        r.pulse as u64,
+        r.quality as u64,
+        r.sum as u64,
+    ];
     text::put_line(text, at, b"integral", &cells, 0)
 }
 
 pub fn put_pulse_time(text: &mut [u8], at: usize, r: PulseTime) -> usize
     ensures { λ k. ⌜ (now (text .exit), k) ≡ put (now (text .entry), at) (lineText (timeLine r)) ⌝ }
 {
-    let cells = [r.channel as u64, r.pulse as u64, r.quality as u64, r.coarse as u64, r.fine as u64];
+    let cells = [
+        r.channel as u64,
+        r.pulse as u64,
+        r.quality as u64,
+        r.coarse as u64,
+        r.fine as u64,
+    ];
     text::put_line(text, at, b"time", &cells, 0)
 }
 
 pub fn put_ped(text: &mut [u8], at: usize, r: PulsePedestal) -> usize
     ensures { λ k. ⌜ (now (text .exit), k) ≡ put (now (text .entry), at) (lineText (pedLine r)) ⌝ }
 {
-    let cells = [r.channel as u64, r.pulse as u64, r.vmin as u64, r.vpeak as u64];
+    let cells = [
+        r.channel as u64,
+        r.pulse as u64,
+        r.vmin as u64,
+        r.vpeak as u64,
+    ];
     text::put_line(text, at, b"ped", &cells, 0)
 }
 

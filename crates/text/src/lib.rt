@@ -5,7 +5,9 @@ ghost use Rattle.text.specs.Page.{put};
 ghost use Rattle.text.specs.Line.{decimal, cellOf, cellText, cellsOf, cellsText, lineOf, lineText};
 
 const TAB: u8 = 9;
+
 const LINE_FEED: u8 = 10;
+
 const DASH: u8 = 45;
 
 // Past the page's end the place grows up to this number and stays; no page is so long.

@@ -45,11 +45,14 @@ loop-again : tie.Need-loop-again Inv-loop μ-loop
 loop-again c =
     let l = c .before .before .before .before .before .before .before .before .before .before .before .before .before .loop in
     let took = c .before .before .before .before .before .before .before .judged .given .0 in
-    let bytes = c .before .before .before .before .before .before .before .before .before .before .before .before .before .before .before .before .before .args .bytes .now in
-    (omega arith, omega arith, c .before .before .before .put-item .kept .0 ∙ l .inv .2,
+    let bytes = c .before .before .before .before .before .before .before .before .before .before .before .before .before .before .before .before .before .args .bytes .now in (
+      omega arith,
+      omega arith,
+      c .before .before .before .put-item .kept .0 ∙ l .inv .2,
       left-less (judged (c .before .before .before .before .before .before .before .before .before) (c .before .before .before .before .before .before .before .judged .given .1))
-      (c .before .before .before .put-item .ensures ∙ ap (λ (b : List ℕ). put (l .text, l .at) (textOf (recordLines (took .0) ((readFrom (took .1 .0) (wordsOfBytes b)) .items)))) (tail-is bytes (l .next + 4)))
-      (c .filler-in .ensures .0))
+          (c .before .before .before .put-item .ensures ∙ ap (λ (b : List ℕ). put (l .text, l .at) (textOf (recordLines (took .0) ((readFrom (took .1 .0) (wordsOfBytes b)) .items)))) (tail-is bytes (l .next + 4)))
+          (c .filler-in .ensures .0),
+    )
 
 same-length : tie.Need-same-length Inv-loop μ-loop
 same-length c = c .before .before .stop .kept .0 ∙ c .before .before .before .before .before .before .before .before .before .before .before .loop .inv .2

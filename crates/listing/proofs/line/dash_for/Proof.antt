@@ -3,14 +3,10 @@ use native.Mathlib.Omega.{arith}
 use borrow.Author.Tests.{eq-eqb, ne-eqb}
 use Rattle.listing.proofs.line.dash_for.Statement.{statement}
 use Rattle.listing.proofs.line.dash_for.Tie as tie
-use Rattle.listing.proofs.line.dash_for.Reads as reads
-use Rattle.listing.proofs.line.dash_for.Lts as lts
 
--- src/line.rt:73:1
 returns : tie.Need-returns
 returns c = (rw (eq-eqb _ _ (c .if1 .taken)), omega arith)
 
--- src/line.rt:73:1
 returns-2 : tie.Need-returns-2
 returns-2 c = (rw (ne-eqb _ _ (c .if1 .left)), omega arith)
 
