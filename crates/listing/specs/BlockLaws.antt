@@ -26,8 +26,9 @@ use Rattle.text.specs.PageLaws.{put-append}
 use Rattle.text.specs.Line.{Line, lineText, textOf}
 use Rattle.text.specs.LineLaws.{text-append, say-one, say-both}
 use Rattle.listing.specs.declared.Block.{Block}
-use Rattle.listing.specs.declared.Second.the-variants as N
-use Rattle.listing.specs.Lines.{refusedLine, secondOf, recordLines, itemLines, fillLines, fillerIn, fillersIn, isWhole, outLines, blockLines, linesFrom}
+use Rattle.lines.specs.declared.Second.the-variants as N
+use Rattle.lines.specs.Lines.{refusedLine, fillLines}
+use Rattle.listing.specs.Listing.{secondOf, recordLines, itemLines, fillerIn, fillersIn, isWhole, outLines, blockLines, linesFrom}
 use Rattle.listing.specs.Says.{BlockSays, ReadingSays}
 
 -- ---- words and bytes

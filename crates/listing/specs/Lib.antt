@@ -1,6 +1,6 @@
 -- What the lister prints, and its laws.
-pub mod Lines
-pub mod LinesLaws
+pub mod Listing
+pub mod RecordLaws
 pub mod Says
 pub mod BlockLaws
 pub mod RoomLaws

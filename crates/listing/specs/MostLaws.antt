@@ -27,11 +27,12 @@ use Rattle.reader.specs.declared.Step.the-variants as S
 use Rattle.host.specs.Check.{wordsOfBytes}
 use Rattle.text.specs.Line.{Cell, Number, cellOf, Line, lineOf}
 use Rattle.text.specs.LengthLaws.{Below, most, size, size-none, size-both, size-one}
-use Rattle.listing.specs.declared.Second.{Second}
-use Rattle.listing.specs.declared.Second.the-variants as N
+use Rattle.lines.specs.declared.Second.{Second}
+use Rattle.lines.specs.declared.Second.the-variants as N
 use Rattle.listing.specs.declared.Listed.{Listed}
 use Rattle.listing.specs.declared.Listed.the-variants as L
-use Rattle.listing.specs.Lines.{blockName, setupName, eventName, clockName, clock27Name, windowName, pulseName, pairName, integralName, timeName, pedName, endName, fillName, emptyName, refusedName, refusedLine, fillLines, timeLineOf, highIn, secondOf, recordLines, itemLines, fillerIn, fillersIn, isWhole, outLines, blockLines, linesFrom, lengthWrong, linesOf, listingOf}
+use Rattle.lines.specs.Lines.{blockName, setupName, eventName, clockName, clock27Name, windowName, pulseName, pairName, integralName, timeName, pedName, endName, fillName, emptyName, refusedName, refusedLine, fillLines, timeLineOf}
+use Rattle.listing.specs.Listing.{highIn, secondOf, recordLines, itemLines, fillerIn, fillersIn, isWhole, outLines, blockLines, linesFrom, lengthWrong, linesOf, listingOf}
 use Rattle.listing.specs.Says.{Says}
 use Rattle.listing.specs.BlockLaws.{words-le, items-le, whole-some}
 

@@ -8,7 +8,7 @@ use Rattle.frame.specs.Words.{blockHeaderOf, blockHeaderFixed, blockHeaderWithi
 use Rattle.measures.specs.Words.{integralOf, timeOf, timeFixed, pedestalOf}
 use Rattle.reader.specs.Reader.{formAt, atLimit, refusalOf, onward, after, stepAt, judgeAt, endOf, readFrom}
 use Rattle.text.specs.Line.{placesOf, decimal, cellsText, lineText, textOf}
-use Rattle.listing.specs.Lines.{itemLines, fillersIn, blockLines, linesFrom, linesOf, listingOf}
+use Rattle.listing.specs.Listing.{itemLines, fillersIn, blockLines, linesFrom, linesOf, listingOf}
 
 -- "The lister, fed those 40 bytes on standard input, prints"
 pub run-a : listingOf

@@ -8,7 +8,7 @@ use lib.ListN.{length, drop}
 use Rattle.reader.specs.Reader.{Out, Reading}
 use Rattle.text.specs.Page.{Page, put}
 use Rattle.text.specs.Line.{Line, textOf}
-use Rattle.listing.specs.Lines.{isWhole, blockLines}
+use Rattle.listing.specs.Listing.{isWhole, blockLines}
 use Rattle.listing.specs.declared.Block.{Block}
 use Rattle.listing.specs.declared.Listed.{Listed}
 use Rattle.listing.specs.declared.Listed.the-variants as L

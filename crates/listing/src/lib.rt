@@ -7,19 +7,13 @@ ghost use Rattle.reader.specs.Reader.{startOf, readFrom, outOf};
 ghost use Rattle.host.specs.Check.{wordsOfBytes};
 ghost use Rattle.text.specs.Page.{put};
 ghost use Rattle.text.specs.Line.{textOf};
-ghost use Rattle.listing.specs.Lines.{highIn, secondOf, recordLines, fillerIn, fillLines, outLines, linesFrom, listingOf};
+ghost use Rattle.lines.specs.Lines.{fillLines};
+ghost use Rattle.listing.specs.Listing.{highIn, secondOf, recordLines, fillerIn, outLines, linesFrom, listingOf};
 ghost use Rattle.listing.specs.Says.{BlockSays, ReadingSays, Says};
 use items::Item;
+use lines::Second;
 use reader::Judged;
 use reader::Scan;
-
-mod line;
-
-// What follows a first time word: a second with time bits 47-24, or none.
-pub enum Second {
-    Nothing,
-    High(u32),
-}
 
 // What one block leaves: the next place of the text, the bytes that it takes, whether it is whole.
 pub struct Block {
@@ -85,19 +79,19 @@ fn put_item(text: &mut [u8], at: usize, item: Item, behind: &[u8], after: Scan) 
     ensures { λ r. ⌜ (now (text .exit), r) ≡ put (now (text .entry), at) (textOf (recordLines item ((readFrom after (wordsOfBytes (now (behind .entry)))) .items))) ⌝ }
 {
     match item {
-        Item::Block(r) => line::put_block(text, at, r),
-        Item::Parameters(r) => line::put_setup(text, at, r),
-        Item::Trailer(r) => line::put_end(text, at, r),
-        Item::Event(r) => line::put_event(text, at, r),
-        Item::Clock(r) => line::put_time(text, at, r, second_in(behind, after)),
+        Item::Block(r) => lines::put_block(text, at, r),
+        Item::Parameters(r) => lines::put_setup(text, at, r),
+        Item::Trailer(r) => lines::put_end(text, at, r),
+        Item::Event(r) => lines::put_event(text, at, r),
+        Item::Clock(r) => lines::put_time(text, at, r, second_in(behind, after)),
         Item::ClockHigh(_) => at,
-        Item::Window(r) => line::put_window(text, at, r),
-        Item::Raw(r) => line::put_pulse(text, at, r),
-        Item::Pair(r) => line::put_pair(text, at, r),
-        Item::Integral(r) => line::put_integral(text, at, r),
-        Item::Time(r) => line::put_pulse_time(text, at, r),
-        Item::Pedestal(r) => line::put_ped(text, at, r),
-        Item::Empty(r) => line::put_empty(text, at, r),
+        Item::Window(r) => lines::put_window(text, at, r),
+        Item::Raw(r) => lines::put_pulse(text, at, r),
+        Item::Pair(r) => lines::put_pair(text, at, r),
+        Item::Integral(r) => lines::put_integral(text, at, r),
+        Item::Time(r) => lines::put_pulse_time(text, at, r),
+        Item::Pedestal(r) => lines::put_ped(text, at, r),
+        Item::Empty(r) => lines::put_empty(text, at, r),
         Item::Filler(_) => at,
     }
 }
@@ -128,7 +122,7 @@ fn filler_in(item: Item) -> u64
 fn stop(text: &mut [u8], at: usize, fillers: u64, number: u32, place: u32, bytes: usize) -> Block
     ensures { λ r. ⌜ BlockSays (now (text .entry)) at (fillLines fillers ++ outLines (outOf number place)) bytes (outOf number place) r (now (text .exit)) ⌝ }
 {
-    let filled = line::put_fill(text, at, fillers);
+    let filled = lines::put_fill(text, at, fillers);
     if number == 0 {
         return Block {
             at: filled,
@@ -137,7 +131,7 @@ fn stop(text: &mut [u8], at: usize, fillers: u64, number: u32, place: u32, bytes
         };
     }
     Block {
-        at: line::put_refused(text, filled, number, place),
+        at: lines::put_refused(text, filled, number, place),
         bytes: bytes,
         whole: false,
     }
@@ -194,7 +188,7 @@ fn put_listing(bytes: &[u8], text: &mut [u8]) -> usize
     ensures { λ r. ⌜ (now (text .exit), r) ≡ put (now (text .entry), 0) (listingOf (now (bytes .entry))) ⌝ }
 {
     if (bytes.len() % 4 != 0) | (65536 < bytes.len()) {
-        return line::put_refused(text, 0, 16, 0);
+        return lines::put_refused(text, 0, 16, 0);
     }
     list_blocks(bytes, text)
 }

@@ -4,7 +4,7 @@ use mathlib.Core.List.{List}
 use native.Mathlib.Omega.{arith}
 use lib.ListN.{length}
 use Rattle.text.specs.Page.{farthest}
-use Rattle.listing.specs.Lines.{listingOf}
+use Rattle.listing.specs.Listing.{listingOf}
 use Rattle.listing.specs.RoomLaws.{no-room, room}
 use Rattle.listing.specs.MostLaws.{listing-le}
 use borrow.Author.Needs.{needs}

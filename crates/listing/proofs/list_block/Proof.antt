@@ -11,7 +11,7 @@ use Rattle.reader.specs.Reader.{startOf, just, onJudged, readFrom}
 use Rattle.host.specs.Check.{wordsOfBytes}
 use Rattle.text.specs.Page.{put}
 use Rattle.text.specs.Line.{textOf}
-use Rattle.listing.specs.Lines.{recordLines}
+use Rattle.listing.specs.Listing.{recordLines}
 use Rattle.listing.specs.BlockLaws.{tail-is, read-at, read-end, refused-some, Left, left-all, left-is, left-less, left-none}
 use Rattle.listing.proofs.list_block.Statement.{statement}
 use Rattle.listing.proofs.list_block.Tie as tie

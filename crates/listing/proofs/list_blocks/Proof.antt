@@ -8,7 +8,7 @@ use Rattle.host.specs.Check.{wordsOfBytes}
 use Rattle.text.specs.Page.{put}
 use Rattle.text.specs.Line.{textOf}
 use Rattle.text.specs.LineLaws.{say-none}
-use Rattle.listing.specs.Lines.{linesFrom}
+use Rattle.listing.specs.Listing.{linesFrom}
 use Rattle.listing.specs.BlockLaws.{blocks-none, block-within, block-some, block-next, block-last}
 use Rattle.listing.proofs.list_blocks.Statement.{statement}
 use Rattle.listing.proofs.list_blocks.Tie as tie

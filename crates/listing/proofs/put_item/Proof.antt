@@ -1,6 +1,6 @@
 -- `listing::put_item` meets its contract: each record's line.
 use mathlib.Core.Path.{refl}
-use Rattle.listing.specs.LinesLaws.{item-line, item-none, item-time}
+use Rattle.listing.specs.RecordLaws.{item-line, item-none, item-time}
 use borrow.Author.Needs.{needs}
 use Rattle.listing.proofs.put_item.Statement.{statement}
 use Rattle.listing.proofs.put_item.Tie as tie

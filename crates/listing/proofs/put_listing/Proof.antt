@@ -1,6 +1,6 @@
 -- `listing::put_listing` meets its contract: refusal 16 alone, or all blocks.
 use Rattle.text.specs.LineLaws.{say-one}
-use Rattle.listing.specs.Lines.{linesOf, listingOf}
+use Rattle.listing.specs.Listing.{linesOf, listingOf}
 use borrow.Author.Needs.{needs}
 use Rattle.listing.proofs.put_listing.Statement.{statement}
 use Rattle.listing.proofs.put_listing.Tie as tie

@@ -1,12 +1,12 @@
--- `listing::line::put_pair` meets its contract: a dash for each flag.
+-- `lines::put_pair` meets its contract: a dash for each flag.
 use mathlib.Core.Path.{ap, _∙_}
 use native.Mathlib.Omega.{arith}
 use Rattle.text.specs.Page.{put}
 use Rattle.text.specs.Line.{Line, lineText}
-use Rattle.listing.specs.LinesLaws.{pair-line}
+use Rattle.lines.specs.LinesLaws.{pair-line}
 use borrow.Author.Needs.{needs}
-use Rattle.listing.proofs.line.put_pair.Statement.{statement}
-use Rattle.listing.proofs.line.put_pair.Tie as tie
+use Rattle.lines.proofs.put_pair.Statement.{statement}
+use Rattle.lines.proofs.put_pair.Tie as tie
 
 mul-dashes : tie.Need-mul-dashes
 mul-dashes c = omega arith

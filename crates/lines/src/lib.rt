@@ -1,12 +1,11 @@
-// The line of each record, put on the page.
+// The line of each record, put on a page.
 ghost use mathlib.Core.Path.{_≡_};
 ghost use mathlib.Core.Bool.{cond};
 ghost use Prim.Native.Nat.{_≤_};
 ghost use lib.Dec.{eqb};
 ghost use Rattle.text.specs.Page.{put};
 ghost use Rattle.text.specs.Line.{lineText, textOf};
-ghost use Rattle.listing.specs.Lines.{blockLine, setupLine, eventLine, timeLineOf, windowLine, pulseLine, pairLine, integralLine, timeLine, pedLine, endLine, emptyLine, refusedLine, fillLines};
-use crate::Second;
+ghost use Rattle.lines.specs.Lines.{blockLine, setupLine, eventLine, timeLineOf, windowLine, pulseLine, pairLine, integralLine, timeLine, pedLine, endLine, emptyLine, refusedLine, fillLines};
 use frame::block_header::BlockHeader;
 use frame::empty::ModuleEmpty;
 use frame::event_header::EventHeader;
@@ -19,6 +18,12 @@ use measures::time::PulseTime;
 use raw::pair::SamplePair;
 use raw::pulse_raw::PulseRaw;
 use raw::window::WindowRaw;
+
+// What follows a first time word: a second with time bits 47-24, or none.
+pub enum Second {
+    Nothing,
+    High(u32),
+}
 
 pub fn put_block(text: &mut [u8], at: usize, r: BlockHeader) -> usize
     ensures { λ k. ⌜ (now (text .exit), k) ≡ put (now (text .entry), at) (lineText (blockLine r)) ⌝ }

@@ -1,8 +1,8 @@
--- `listing::line::dash_for` meets its contract.
+-- `lines::dash_for` meets its contract.
 use native.Mathlib.Omega.{arith}
 use borrow.Author.Tests.{eq-eqb, ne-eqb}
-use Rattle.listing.proofs.line.dash_for.Statement.{statement}
-use Rattle.listing.proofs.line.dash_for.Tie as tie
+use Rattle.lines.proofs.dash_for.Statement.{statement}
+use Rattle.lines.proofs.dash_for.Tie as tie
 
 returns : tie.Need-returns
 returns c = (rw (eq-eqb _ _ (c .if1 .taken)), omega arith)

@@ -1,9 +1,9 @@
--- `listing::line::put_fill` meets its contract: no line, or one.
+-- `lines::put_fill` meets its contract: no line, or one.
 use borrow.Author.Tests.{eq-eqb, ne-eqb}
 use Rattle.text.specs.LineLaws.{say-none, say-one}
 use borrow.Author.Needs.{needs}
-use Rattle.listing.proofs.line.put_fill.Statement.{statement}
-use Rattle.listing.proofs.line.put_fill.Tie as tie
+use Rattle.lines.proofs.put_fill.Statement.{statement}
+use Rattle.lines.proofs.put_fill.Tie as tie
 
 returns : tie.Need-returns
 returns c = say-none _ _ (rw (eq-eqb _ _ (c .if1 .taken)))

@@ -1,7 +1,7 @@
--- `listing::line::put_time` meets its contract: the name and the number by the second time word.
+-- `lines::put_time` meets its contract: the name and the number by the second time word.
 use borrow.Author.Needs.{needs}
-use Rattle.listing.proofs.line.put_time.Statement.{statement}
-use Rattle.listing.proofs.line.put_time.Tie as tie
+use Rattle.lines.proofs.put_time.Statement.{statement}
+use Rattle.lines.proofs.put_time.Tie as tie
 
 returns : tie.Need-returns
 returns c = rw (c .before .before .before .before .before .before .before .before .enum-told .given .1) (c .before .before .put-line .ensures)
