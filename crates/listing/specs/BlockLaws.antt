@@ -177,7 +177,7 @@ module _ {text₀ : List ℕ} {at : ℕ} {r : Reading} {text : List ℕ} {k n i 
   left-is l e = rw e at l
 
   -- a record is put
-  pub left-less : {x : Item} {rest : Reading} {text′ : List ℕ} {k′ m : ℕ} → Left text₀ at r text k n i (then x rest)
+  left-less : {x : Item} {rest : Reading} {text′ : List ℕ} {k′ m : ℕ} → Left text₀ at r text k n i (then x rest)
       → _≡_ {A = Page} (text′, k′) (put (text, k) (textOf (recordLines x (rest .items)))) → m ≡ fillerIn x → Left text₀ at r text′ k′ (n + m) (i + 4) rest
   unfolding itemLines fillersIn
   left-less {x} {rest} {text′} {k′} {m} l p e =
@@ -195,6 +195,13 @@ module _ {text₀ : List ℕ} {at : ℕ} {r : Reading} {text : List ℕ} {k n i 
 
       lines : restLines n (then x rest) ≡ one ++ restLines (n + m) rest
       lines = append-assoc one (itemLines (rest .items)) _ ∙ ap (λ (c : ℕ). one ++ (itemLines (rest .items) ++ (fillLines c ++ outLines (rest .out)))) count
+
+  -- the record of the word at i is put, by the part of the bytes behind it
+  pub left-took : (bytes : List ℕ) (t : Scan) {x : Item} {text′ : List ℕ} {k′ m : ℕ} → Left text₀ at r text k n i (then x (readFrom t (wordsOfBytes (drop (i + 4) bytes))))
+      → _≡_ {A = Page} (text′, k′) (put (text, k) (textOf (recordLines x ((readFrom t (wordsOfBytes (take (length bytes - (i + 4)) (drop (i + 4) bytes)))) .items)))) → m ≡ fillerIn x
+      → Left text₀ at r text′ k′ (n + m) (i + 4) (readFrom t (wordsOfBytes (drop (i + 4) bytes)))
+  left-took bytes t {x} l p e =
+      left-less l (p ∙ ap (λ (b : List ℕ). put (text, k) (textOf (recordLines x ((readFrom t (wordsOfBytes b)) .items)))) (tail-is bytes (i + 4))) e
 
   -- nothing is left but the block's end
   pub left-none : {o : Out} {b : Block} {text′ : List ℕ} → Left text₀ at r text k n i (just o) → BlockSays text k (fillLines n ++ outLines o) i o b text′ → ReadingSays text₀ at r b text′

@@ -1,9 +1,6 @@
 -- `lines::put_pair` meets its contract: a dash for each flag.
-use mathlib.Core.Path.{ap, _∙_}
 use native.Mathlib.Omega.{arith}
-use Rattle.text.specs.Page.{put}
-use Rattle.text.specs.Line.{Line, lineText}
-use Rattle.lines.specs.LinesLaws.{pair-line}
+use Rattle.lines.specs.LinesLaws.{pair-put}
 use borrow.Author.Needs.{needs}
 use Rattle.lines.proofs.put_pair.Statement.{statement}
 use Rattle.lines.proofs.put_pair.Tie as tie
@@ -16,9 +13,7 @@ add-dashes c = omega arith
 
 returns : tie.Need-returns
 returns c =
-    let a = c .before .before .before .before .before .before .before .before .before .before .before .args in
-    c .before .before .put-line .ensures
-    ∙ ap (λ (l : Line). put (a .text .now, a .at) (lineText l)) (pair-line (a .r) (c .before .before .before .before .before .before .before .dash-for .ensures .0) (c .before .before .before .before .before .before .dash-for2 .ensures .0))
+    pair-put (c .before .before .before .before .before .before .before .before .before .before .before .args .r) (c .before .before .before .before .before .before .before .dash-for .ensures .0) (c .before .before .before .before .before .before .dash-for2 .ensures .0) _ _ (c .before .before .put-line .ensures)
 
 pub put-pair-spec : {M : Type 1} → statement M
 put-pair-spec =

@@ -9,10 +9,7 @@ use Rattle.reader.specs.declared.Scan.{Scan}
 use Rattle.reader.specs.declared.Judged.{Judged}
 use Rattle.reader.specs.Reader.{startOf, just, onJudged, readFrom}
 use Rattle.host.specs.Check.{wordsOfBytes}
-use Rattle.text.specs.Page.{put}
-use Rattle.text.specs.Line.{textOf}
-use Rattle.listing.specs.Listing.{recordLines}
-use Rattle.listing.specs.BlockLaws.{tail-is, read-at, read-end, refused-some, Left, left-all, left-is, left-less, left-none}
+use Rattle.listing.specs.BlockLaws.{tail-is, read-at, read-end, refused-some, Left, left-all, left-is, left-took, left-none}
 use Rattle.listing.proofs.list_block.Statement.{statement}
 use Rattle.listing.proofs.list_block.Tie as tie
 
@@ -43,15 +40,11 @@ loop-holds c =
 
 loop-again : tie.Need-loop-again Inv-loop μ-loop
 loop-again c =
-    let l = c .before .before .before .before .before .before .before .before .before .before .before .before .before .loop in
-    let took = c .before .before .before .before .before .before .before .judged .given .0 in
-    let bytes = c .before .before .before .before .before .before .before .before .before .before .before .before .before .before .before .before .before .args .bytes .now in (
+    let l = c .before .before .before .before .before .before .before .before .before .before .before .before .before .loop in (
       omega arith,
       omega arith,
       c .before .before .before .put-item .kept .0 ∙ l .inv .2,
-      left-less (judged (c .before .before .before .before .before .before .before .before .before) (c .before .before .before .before .before .before .before .judged .given .1))
-          (c .before .before .before .put-item .ensures ∙ ap (λ (b : List ℕ). put (l .text, l .at) (textOf (recordLines (took .0) ((readFrom (took .1 .0) (wordsOfBytes b)) .items)))) (tail-is bytes (l .next + 4)))
-          (c .filler-in .ensures .0),
+      left-took (c .before .before .before .before .before .before .before .before .before .before .before .before .before .before .before .before .before .args .bytes .now) _ (judged (c .before .before .before .before .before .before .before .before .before) (c .before .before .before .before .before .before .before .judged .given .1)) (c .before .before .before .put-item .ensures) (c .filler-in .ensures .0),
     )
 
 same-length : tie.Need-same-length Inv-loop μ-loop
