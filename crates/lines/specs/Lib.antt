@@ -1,0 +1,3 @@
+-- The line of each record, and its laws.
+pub mod Lines
+pub mod LinesLaws

@@ -1,0 +1,293 @@
+-- A block listed word by word, and blocks one after another. Assumes nothing.
+use Prim.Native.Nat.{ℕ, zero, suc, _+_, _-_, _*_, _≤_, _<_}
+use mathlib.Core.Path.{_≡_, refl, sym, ap, _∙_}
+use mathlib.Core.Bool.{Bool, true, false, cond, false≢true}
+use mathlib.Core.List.{List, [], _∷_, _++_, append-assoc, append-nil}
+use native.Mathlib.Omega.{arith}
+use native.Mathlib.Nat.{zero-add, add-zero}
+use lib.Dec.{eqb}
+use lib.ListN.{length, take, drop, getD, length-drop}
+use lib.Seq.{drop-drop, take-all}
+use Rattle.fields.specs.Word.{read}
+use Rattle.fields.specs.Bytes.{wordOfBytes}
+use Rattle.items.specs.Items.{itemFrom}
+use Rattle.items.specs.declared.Form.{Form}
+use Rattle.items.specs.declared.Form.the-variants as F
+use Rattle.items.specs.declared.Item.{Item}
+use Rattle.reader.specs.declared.Scan.{Scan}
+use Rattle.reader.specs.declared.Step.the-variants as S
+use Rattle.reader.specs.declared.Judged.{Judged}
+use Rattle.reader.specs.declared.Judged.the-variants as J
+use Rattle.reader.specs.Reader.{isEnd, formAt, refusalOf, after, stepAt, withItem, judgeAt, startOf, Out, Broken, endNumber, outOf, Reading, then, just, onJudged, readFrom}
+use Rattle.reader.specs.RunLaws.{end-by}
+use Rattle.host.specs.Check.{wordsOfBytes}
+use Rattle.text.specs.Page.{Page, put}
+use Rattle.text.specs.PageLaws.{put-append}
+use Rattle.text.specs.Line.{Line, lineText, textOf}
+use Rattle.text.specs.LineLaws.{text-append, say-one, say-both}
+use Rattle.listing.specs.declared.Block.{Block}
+use Rattle.lines.specs.declared.Second.the-variants as N
+use Rattle.lines.specs.Lines.{refusedLine, fillLines}
+use Rattle.listing.specs.Listing.{secondOf, recordLines, itemLines, fillerIn, fillersIn, isWhole, outLines, blockLines, linesFrom}
+use Rattle.listing.specs.Says.{BlockSays, ReadingSays}
+
+-- ---- words and bytes
+
+-- a part that is lent, from i to the end
+pub tail-is : (bytes : List ℕ) (i : ℕ) → take (length bytes - i) (drop i bytes) ≡ drop i bytes
+tail-is bytes i = take-all (length bytes - i) (drop i bytes) (omega (arith, length-drop i bytes))
+
+pub words-none : (bytes : List ℕ) → length bytes < 4 → wordsOfBytes bytes ≡ []
+words-none [] h = refl
+words-none (a ∷ []) h = refl
+words-none (a ∷ b ∷ []) h = refl
+words-none (a ∷ b ∷ c ∷ []) h = refl
+words-none (a ∷ b ∷ c ∷ d ∷ bytes) h = absurd (omega arith)
+
+pub words-some : (bytes : List ℕ) → 4 ≤ length bytes → wordsOfBytes bytes ≡ wordOfBytes (getD bytes 0 0) (getD bytes 1 0) (getD bytes 2 0) (getD bytes 3 0) ∷ wordsOfBytes (drop 4 bytes)
+words-some [] h = absurd (omega arith)
+words-some (a ∷ []) h = absurd (omega arith)
+words-some (a ∷ b ∷ []) h = absurd (omega arith)
+words-some (a ∷ b ∷ c ∷ []) h = absurd (omega arith)
+words-some (a ∷ b ∷ c ∷ d ∷ bytes) h = refl
+
+words-drop : (n : ℕ) (bytes : List ℕ) → wordsOfBytes (drop (4 * n) bytes) ≡ drop n (wordsOfBytes bytes)
+words-drop zero bytes = refl
+words-drop (suc n) bytes = ap (λ (k : ℕ). wordsOfBytes (drop k bytes)) four ∙ go bytes (λ rest. words-drop n rest)
+  where
+    four : 4 * suc n ≡ suc (suc (suc (suc (4 * n))))
+    four = omega arith
+
+    go : (bytes : List ℕ) → ((rest : List ℕ) → wordsOfBytes (drop (4 * n) rest) ≡ drop n (wordsOfBytes rest)) → wordsOfBytes (drop (suc (suc (suc (suc (4 * n))))) bytes) ≡ drop (suc n) (wordsOfBytes bytes)
+    go [] r = refl
+    go (a ∷ []) r = refl
+    go (a ∷ b ∷ []) r = refl
+    go (a ∷ b ∷ c ∷ []) r = refl
+    go (a ∷ b ∷ c ∷ d ∷ rest) r = r rest
+
+pub words-le : (bytes : List ℕ) → 4 * length (wordsOfBytes bytes) ≤ length bytes
+words-le [] = omega arith
+words-le (a ∷ []) = omega arith
+words-le (a ∷ b ∷ []) = omega arith
+words-le (a ∷ b ∷ c ∷ []) = omega arith
+words-le (a ∷ b ∷ c ∷ d ∷ bytes) = omega (arith, words-le bytes)
+
+-- ---- a reading
+
+-- the reading from the word at i, judged j
+pub read-at : (bytes : List ℕ) (i : ℕ) (s : Scan) {word : ℕ} {j k : Judged} → i + 4 ≤ length bytes → word ≡ getD (wordsOfBytes (drop i bytes)) 0 0 → j ≡ judgeAt s word → j ≡ k
+    → readFrom s (wordsOfBytes (drop i bytes)) ≡ onJudged k (s .place) (λ t. readFrom t (wordsOfBytes (drop (i + 4) bytes)))
+unfolding readFrom
+read-at bytes i s {word} {j} {k} h e f g =
+    let some = words-some (drop i bytes) (omega (arith, length-drop i bytes)) in
+    ap (readFrom s) some
+    ∙ ap (λ (x : Judged). onJudged x (s .place) (λ t. readFrom t (wordsOfBytes (drop 4 (drop i bytes))))) (ap (judgeAt s) (sym (e ∙ ap (λ (l : List ℕ). getD l 0 0) some)) ∙ sym f ∙ g)
+    ∙ ap (λ (l : List ℕ). onJudged k (s .place) (λ t. readFrom t (wordsOfBytes l))) (drop-drop 4 i bytes)
+
+-- no word is left
+pub read-end : (bytes : List ℕ) (i : ℕ) (s : Scan) {number : ℕ} → length bytes < i + 4 → number ≡ endNumber s → readFrom s (wordsOfBytes (drop i bytes)) ≡ just (outOf number (s .place))
+unfolding readFrom
+read-end bytes i s h e = ap (readFrom s) (words-none (drop i bytes) (omega (arith, length-drop i bytes))) ∙ ap just (end-by s ∙ ap (λ (n : ℕ). outOf n (s .place)) (sym e))
+
+-- a second time word, one word ahead
+pub second-none : (bytes : List ℕ) (s : Scan) → length bytes < 4 → N.Nothing ≡ secondOf ((readFrom s (wordsOfBytes bytes)) .items)
+unfolding readFrom
+second-none bytes s h = rw (words-none bytes h)
+
+pub second-at : (bytes : List ℕ) (s : Scan) {word : ℕ} {j k : Judged} → 4 ≤ length bytes → word ≡ getD (wordsOfBytes bytes) 0 0 → j ≡ judgeAt s word → j ≡ k
+    → secondOf ((onJudged k (s .place) (λ t. readFrom t (wordsOfBytes (drop 4 bytes)))) .items) ≡ secondOf ((readFrom s (wordsOfBytes bytes)) .items)
+second-at bytes s h e f g = ap (λ (r : Reading). secondOf (r .items)) (sym (read-at bytes 0 s (omega arith) e f g))
+
+-- a record for each word read
+pub items-le : (s : Scan) (words : List ℕ) → length ((readFrom s words) .items) ≤ length words
+unfolding readFrom
+items-le s [] = omega arith
+items-le s (word ∷ words) = go (judgeAt s word) (λ t. items-le t words)
+  where
+    go : (j : Judged) → ((t : Scan) → length ((readFrom t words) .items) ≤ length words) → length ((onJudged j (s .place) (λ t. readFrom t words)) .items) ≤ suc (length words)
+    go (J.Took x t) r = omega (arith, r t)
+    go (J.Refused n) r = omega arith
+    go J.Ended r = omega arith
+
+-- a refusal has a number
+pub refused-some : (s : Scan) (word : ℕ) {n : ℕ} (place : ℕ) → J.Refused n ≡ judgeAt s word → Broken n place ≡ outOf n place
+unfolding judgeAt stepAt
+refused-some s word {n} place e = go (isEnd (formAt s word)) (eqb (refusalOf s (formAt s word) word) 0) refl e
+  where
+    f : Form
+    f = formAt s word
+
+    go : (a b : Bool) → eqb (refusalOf s f word) 0 ≡ b → J.Refused n ≡ withItem word (cond a S.Ended (cond b (S.Went f (after s (itemFrom f word))) (S.Refused (refusalOf s f word)))) → Broken n place ≡ outOf n place
+    go true b h e = let z : _≡_ {A = ℕ} 0 1 = cc in absurd (omega arith)
+    go false true h e = let z : _≡_ {A = ℕ} 0 1 = cc in absurd (omega arith)
+    go false false h e =
+        let m : n ≡ refusalOf s f word = cc in
+        rw (m, h)
+
+-- a block that is whole has a word
+start-form : (word : ℕ) → isEnd (formAt startOf word) ≡ false
+unfolding formAt
+start-form word = go (eqb (read 31 31 word) 0) (eqb (read 30 27 word) 0) (eqb (read 30 27 word) 14)
+  where
+    go : (a b c : Bool) → isEnd (cond a F.No (cond b F.Block (cond c F.Empty F.No))) ≡ false
+    go true b c = refl
+    go false true c = refl
+    go false false true = refl
+    go false false false = refl
+
+start-judged : (word : ℕ) → J.Ended ≡ judgeAt startOf word → ⊥
+unfolding judgeAt stepAt
+start-judged word e = go (isEnd (formAt startOf word)) (eqb (refusalOf startOf f word) 0) (start-form word) e
+  where
+    f : Form
+    f = formAt startOf word
+
+    go : (a b : Bool) → a ≡ false → J.Ended ≡ withItem word (cond a S.Ended (cond b (S.Went f (after startOf (itemFrom f word))) (S.Refused (refusalOf startOf f word)))) → ⊥
+    go true b h e = let z : _≡_ {A = ℕ} 0 1 = cc in omega arith
+    go false true h e = let z : _≡_ {A = ℕ} 0 1 = cc in omega arith
+    go false false h e = let z : _≡_ {A = ℕ} 0 1 = cc in omega arith
+
+pub whole-some : (word : ℕ) (words : List ℕ) → isWhole ((readFrom startOf (word ∷ words)) .out) ≡ true → 0 < length ((readFrom startOf (word ∷ words)) .items)
+unfolding readFrom
+whole-some word words = go (judgeAt startOf word) refl
+  where
+    go : (j : Judged) → j ≡ judgeAt startOf word → isWhole ((onJudged j 0 (λ t. readFrom t words)) .out) ≡ true → 0 < length ((onJudged j 0 (λ t. readFrom t words)) .items)
+    go (J.Took x t) e h = omega arith
+    go (J.Refused n) e h = absurd (false≢true h)
+    go J.Ended e h = absurd (start-judged word e)
+
+-- ---- a block, word by word
+
+-- the lines of what is left of a block, behind n fillers
+abbrev pub restLines : ℕ → Reading → List Line
+restLines n r = itemLines (r .items) ++ (fillLines (n + fillersIn (r .items)) ++ outLines (r .out))
+
+-- of the block r, put from place at of text₀: `rest` is left, to be put from place k of text, n fillers and i bytes behind
+pub record Left (text₀ : List ℕ) (at : ℕ) (r : Reading) (text : List ℕ) (k n i : ℕ) (rest : Reading) : Type 0 where
+  pub page : put (text₀, at) (textOf (blockLines r)) ≡ put (text, k) (textOf (restLines n rest))
+  pub taken : 4 * length (r .items) ≡ i + 4 * length (rest .items)
+  pub ended : r .out ≡ rest .out
+
+pub left-all : (text : List ℕ) (at : ℕ) (r : Reading) → Left text at r text at 0 0 r
+unfolding blockLines
+left-all text at r = record { page = rw (zero-add (fillersIn (r .items))); taken = omega arith; ended = refl }
+
+module _ {text₀ : List ℕ} {at : ℕ} {r : Reading} {text : List ℕ} {k n i : ℕ} where
+  pub left-is : {rest rest′ : Reading} → Left text₀ at r text k n i rest → rest ≡ rest′ → Left text₀ at r text k n i rest′
+  left-is l e = rw e at l
+
+  -- a record is put
+  left-less : {x : Item} {rest : Reading} {text′ : List ℕ} {k′ m : ℕ} → Left text₀ at r text k n i (then x rest)
+      → _≡_ {A = Page} (text′, k′) (put (text, k) (textOf (recordLines x (rest .items)))) → m ≡ fillerIn x → Left text₀ at r text′ k′ (n + m) (i + 4) rest
+  unfolding itemLines fillersIn
+  left-less {x} {rest} {text′} {k′} {m} l p e =
+      record {
+        page = l .page ∙ ap (λ (ls : List Line). put (text, k) (textOf ls)) lines ∙ ap (put (text, k)) (text-append one (restLines (n + m) rest)) ∙ put-append (text, k) (textOf one) (textOf (restLines (n + m) rest)) ∙ ap (λ (q : Page). put q (textOf (restLines (n + m) rest))) (sym p);
+        taken = l .taken ∙ omega arith;
+        ended = l .ended;
+      }
+    where
+      one : List Line
+      one = recordLines x (rest .items)
+
+      count : n + (fillerIn x + fillersIn (rest .items)) ≡ n + m + fillersIn (rest .items)
+      count = omega (arith, e)
+
+      lines : restLines n (then x rest) ≡ one ++ restLines (n + m) rest
+      lines = append-assoc one (itemLines (rest .items)) _ ∙ ap (λ (c : ℕ). one ++ (itemLines (rest .items) ++ (fillLines c ++ outLines (rest .out)))) count
+
+  -- the record of the word at i is put, by the part of the bytes behind it
+  pub left-took : (bytes : List ℕ) (t : Scan) {x : Item} {text′ : List ℕ} {k′ m : ℕ} → Left text₀ at r text k n i (then x (readFrom t (wordsOfBytes (drop (i + 4) bytes))))
+      → _≡_ {A = Page} (text′, k′) (put (text, k) (textOf (recordLines x ((readFrom t (wordsOfBytes (take (length bytes - (i + 4)) (drop (i + 4) bytes)))) .items)))) → m ≡ fillerIn x
+      → Left text₀ at r text′ k′ (n + m) (i + 4) (readFrom t (wordsOfBytes (drop (i + 4) bytes)))
+  left-took bytes t {x} l p e =
+      left-less l (p ∙ ap (λ (b : List ℕ). put (text, k) (textOf (recordLines x ((readFrom t (wordsOfBytes b)) .items)))) (tail-is bytes (i + 4))) e
+
+  -- nothing is left but the block's end
+  pub left-none : {o : Out} {b : Block} {text′ : List ℕ} → Left text₀ at r text k n i (just o) → BlockSays text k (fillLines n ++ outLines o) i o b text′ → ReadingSays text₀ at r b text′
+  unfolding itemLines fillersIn
+  left-none {o} l s =
+      record {
+        page = s .page ∙ ap (λ (c : ℕ). put (text, k) (textOf (fillLines c ++ outLines o))) (sym (add-zero n)) ∙ sym (l .page);
+        taken = s .taken ∙ omega (arith, l .taken);
+        ended = s .ended ∙ ap isWhole (sym (l .ended));
+      }
+
+-- ---- a block's end, put by its number
+
+module _ (fillers number place : ℕ) {text : List ℕ} {at : ℕ} {text₁ : List ℕ} {k i : ℕ} where
+  pub stopped-whole : eqb number 0 ≡ true → _≡_ {A = Page} (text₁, k) (put (text, at) (textOf (fillLines fillers)))
+      → BlockSays text at (fillLines fillers ++ outLines (outOf number place)) i (outOf number place) (record { at = k; bytes = i; whole = true }) text₁
+  stopped-whole e p = rw e (record { page = p ∙ ap (λ (ls : List Line). put (text, at) (textOf ls)) (sym (append-nil (fillLines fillers))); taken = refl; ended = refl })
+
+  pub stopped-broken : eqb number 0 ≡ false → _≡_ {A = Page} (text₁, k) (put (text, at) (textOf (fillLines fillers)))
+      → {text₂ : List ℕ} {m : ℕ} → _≡_ {A = Page} (text₂, m) (put (text₁, k) (lineText (refusedLine number place)))
+      → BlockSays text at (fillLines fillers ++ outLines (outOf number place)) i (outOf number place) (record { at = m; bytes = i; whole = false }) text₂
+  stopped-broken e p {text₂} {m} q =
+      rw e (record { page = say-both (text, at) (text₁, k) (text₂, m) (fillLines fillers) (refusedLine number place ∷ []) p (say-one (text₁, k) (text₂, m) _ (refusedLine number place) q refl); taken = refl; ended = refl })
+
+-- ---- blocks one after another
+
+skipped : (n : ℕ) (words : List ℕ) → linesFrom n words ≡ linesFrom 0 (drop n words)
+unfolding linesFrom
+skipped zero words = refl
+skipped (suc n) [] = refl
+skipped (suc n) (word ∷ words) = skipped n words
+
+-- the lines of an input are those of its first block, and of what stands behind it
+blocks-cons : (word : ℕ) (words : List ℕ) → let r = readFrom startOf (word ∷ words) in linesFrom 0 (word ∷ words) ≡ blockLines r ++ cond (isWhole (r .out)) (linesFrom 0 (drop (length (r .items)) (word ∷ words))) []
+unfolding linesFrom
+blocks-cons word words = go (isWhole (r .out)) (length (r .items)) (whole-some word words)
+  where
+    r : Reading
+    r = readFrom startOf (word ∷ words)
+
+    go : (b : Bool) (n : ℕ) → (b ≡ true → 0 < n) → blockLines r ++ cond b (linesFrom (n - 1) words) [] ≡ blockLines r ++ cond b (linesFrom 0 (drop n (word ∷ words))) []
+    go true zero h = absurd (omega (arith, h refl))
+    go true (suc n) h = ap (λ (ls : List Line). blockLines r ++ ls) (ap (λ (k : ℕ). linesFrom k words) (omega arith) ∙ skipped n words)
+    go false n h = refl
+
+-- no word is left
+pub blocks-none : (bytes : List ℕ) (i : ℕ) → length bytes < i + 4 → linesFrom 0 (wordsOfBytes (drop i bytes)) ≡ []
+unfolding linesFrom
+blocks-none bytes i h = ap (linesFrom 0) (words-none (drop i bytes) (omega (arith, length-drop i bytes)))
+
+-- the block at i is listed
+module _ (bytes : List ℕ) (i : ℕ) (h : i + 4 ≤ length bytes) where
+  here : Reading
+  here = readFrom startOf (wordsOfBytes (drop i bytes))
+
+  blocks-at : linesFrom 0 (wordsOfBytes (drop i bytes)) ≡ blockLines here ++ cond (isWhole (here .out)) (linesFrom 0 (wordsOfBytes (drop (i + 4 * length (here .items)) bytes))) []
+  unfolding here
+  blocks-at = first ∙ ap (λ (l : List ℕ). blockLines here ++ cond (isWhole (here .out)) (linesFrom 0 l) []) (sym (words-drop (length (here .items)) (drop i bytes)) ∙ ap wordsOfBytes (drop-drop (4 * length (here .items)) i bytes))
+    where
+      first : linesFrom 0 (wordsOfBytes (drop i bytes)) ≡ blockLines here ++ cond (isWhole (here .out)) (linesFrom 0 (drop (length (here .items)) (wordsOfBytes (drop i bytes)))) []
+      first = rw (words-some (drop i bytes) (omega (arith, length-drop i bytes))) (blocks-cons _ _)
+
+  -- it has a word where it is whole, and lies in the bytes
+  some : isWhole (here .out) ≡ true → 0 < length (here .items)
+  unfolding here
+  some = rw (words-some (drop i bytes) (omega (arith, length-drop i bytes))) (whole-some _ _)
+
+  module _ {text : List ℕ} {k : ℕ} {b : Block} {text′ : List ℕ} (says : ReadingSays text k (readFrom startOf (wordsOfBytes (take (length bytes - i) (drop i bytes)))) b text′) where
+    told : ReadingSays text k here b text′
+    unfolding here
+    told = rw (tail-is bytes i) at says
+
+    pub block-within : i + b .bytes ≤ length bytes
+    unfolding here
+    block-within = omega (arith, told .taken, items-le startOf (wordsOfBytes (drop i bytes)), words-le (drop i bytes), length-drop i bytes)
+
+    pub block-some : b .whole ≡ true → 4 ≤ b .bytes
+    block-some e = omega (arith, told .taken, some (sym (told .ended) ∙ e))
+
+    pub block-next : b .whole ≡ true → put (text, k) (textOf (linesFrom 0 (wordsOfBytes (drop i bytes)))) ≡ put (text′, b .at) (textOf (linesFrom 0 (wordsOfBytes (drop (i + b .bytes) bytes))))
+    block-next e =
+        let rest = linesFrom 0 (wordsOfBytes (drop (i + b .bytes) bytes)) in
+        ap (λ (ls : List Line). put (text, k) (textOf ls)) (blocks-at ∙ rw (sym (told .ended) ∙ e, ← told .taken))
+        ∙ ap (put (text, k)) (text-append (blockLines here) rest)
+        ∙ put-append (text, k) (textOf (blockLines here)) (textOf rest)
+        ∙ ap (λ (q : Page). put q (textOf rest)) (sym (told .page))
+
+    pub block-last : b .whole ≡ false → _≡_ {A = Page} (text′, b .at) (put (text, k) (textOf (linesFrom 0 (wordsOfBytes (drop i bytes)))))
+    block-last e = told .page ∙ ap (λ (ls : List Line). put (text, k) (textOf ls)) (sym (blocks-at ∙ rw (sym (told .ended) ∙ e) (append-nil (blockLines here))))

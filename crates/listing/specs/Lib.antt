@@ -1,0 +1,8 @@
+-- What the lister prints, and its laws.
+pub mod Listing
+pub mod RecordLaws
+pub mod Says
+pub mod BlockLaws
+pub mod RoomLaws
+pub mod MostLaws
+pub mod RunLaws

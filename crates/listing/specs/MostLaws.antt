@@ -1,0 +1,219 @@
+-- How long a text can be: at most 23 bytes a word, and one refusal's line. Assumes nothing.
+use Prim.Native.Nat.{ℕ, zero, suc, _+_, _-_, _*_, _/_, _%_, _^_, _≤_, _<_}
+use mathlib.Core.Path.{_≡_, refl}
+use mathlib.Core.Bool.{Bool, true, false, cond, not, _||_}
+use mathlib.Core.List.{List, [], _∷_, _++_}
+use native.Mathlib.Omega.{arith}
+use native.Mathlib.Nat.{mod-lt, lt-of-lt-of-le}
+use borrow.Author.Tests.{ltb-false, le-leb, ne-eqb}
+use lib.Dec.{T, leb, eqb, ltb, leb→le, lit<, lit≤}
+use lib.Pow.{pow-pos}
+use lib.ListN.{length}
+use Rattle.ground.specs.Tests.{firstOf}
+use Rattle.fields.specs.Word.{fieldAt}
+use Rattle.frame.specs.Words.{blockHeaderOf, parametersOf, trailerOf, eventHeaderOf, triggerTimeOf, triggerTimeHighOf, emptyOf, fillerOf}
+use Rattle.raw.specs.Words.{windowOf, pulseRawOf, pairOf}
+use Rattle.measures.specs.Words.{integralOf, timeOf, pedestalOf}
+use Rattle.frame.specs.declared.trigger_time.TriggerTime.{TriggerTime}
+use Rattle.items.specs.Items.{itemFrom, fixedIn}
+use Rattle.items.specs.declared.Form.{Form}
+use Rattle.items.specs.declared.Form.the-variants as F
+use Rattle.items.specs.declared.Item.{Item}
+use Rattle.reader.specs.declared.Scan.{Scan}
+use Rattle.reader.specs.declared.Judged.{Judged}
+use Rattle.reader.specs.declared.Judged.the-variants as J
+use Rattle.reader.specs.Reader.{unfinished, atLimit, isEnd, isNo, slotWrong, itemWrong, countWrong, refusalOf, onward, after, formAt, stepAt, withItem, judgeAt, startOf, Out, Whole, Broken, endOf, Reading, just, onJudged, readFrom}
+use Rattle.reader.specs.declared.Step.the-variants as S
+use Rattle.host.specs.Check.{wordsOfBytes}
+use Rattle.text.specs.Line.{Cell, Number, cellOf, Line, lineOf}
+use Rattle.text.specs.LengthLaws.{Below, most, size, size-none, size-both, size-one}
+use Rattle.lines.specs.declared.Second.{Second}
+use Rattle.lines.specs.declared.Second.the-variants as N
+use Rattle.listing.specs.declared.Listed.{Listed}
+use Rattle.listing.specs.declared.Listed.the-variants as L
+use Rattle.lines.specs.Lines.{blockName, setupName, eventName, clockName, clock27Name, windowName, pulseName, pairName, integralName, timeName, pedName, endName, fillName, emptyName, refusedName, refusedLine, fillLines, timeLineOf}
+use Rattle.listing.specs.Listing.{highIn, secondOf, recordLines, itemLines, fillerIn, fillersIn, isWhole, outLines, blockLines, linesFrom, lengthWrong, linesOf, listingOf}
+use Rattle.listing.specs.Says.{Says}
+use Rattle.listing.specs.BlockLaws.{words-le, items-le, whole-some}
+
+-- ---- one record
+
+field-small : (word place width : ℕ) → fieldAt word place width < 2 ^ width
+unfolding fieldAt
+field-small word place width = mod-lt (word / 2 ^ place) (pow-pos width)
+
+field-lt : (word place width d : ℕ) → T (leb (2 ^ width) (10 ^ d)) → fieldAt word place width < 10 ^ d
+field-lt word place width d t = lt-of-lt-of-le (field-small word place width) (leb→le (2 ^ width) (10 ^ d) t)
+
+-- a second time word has 24 bits
+abbrev HighSmall : Second → Type 0
+HighSmall N.Nothing = Unit
+HighSmall (N.High high) = high < 2 ^ 24
+
+record Small (x : Item) : Type 0 where
+  line : (behind : List Item) → HighSmall (secondOf behind) → size (recordLines x behind) + 23 * fillerIn x ≤ 23
+  high : HighSmall (highIn x)
+
+one : (name : List ℕ) (cells : List Cell) (ds : List ℕ) → Below cells ds → length name + (most ds + 1) ≤ 23 → size (lineOf name cells ∷ []) + 23 * 0 ≤ 23
+one name cells ds h k = omega (arith, size-one name cells ds 23 h k)
+
+cell-below : (b : Bool) (n d : ℕ) (cells : List Cell) (ds : List ℕ) → n < 10 ^ suc d → Below cells ds → Below (cellOf b n ∷ cells) (d ∷ ds)
+cell-below true n d cells ds h r = r
+cell-below false n d cells ds h r = (h, r)
+
+pair-below : (a b : Bool) (m n : ℕ) → m < 10 ^ 4 → n < 10 ^ 4 → Below (cellOf a m ∷ cellOf b n ∷ []) (3 ∷ 3 ∷ [])
+pair-below a b m n h k = cell-below a m 3 (cellOf b n ∷ []) (3 ∷ []) h (cell-below b n 3 [] [] k tt)
+
+time-small : (r : TriggerTime) (second : Second) → r .middle < 10 → r .low < 2 ^ 24 → HighSmall second → size (timeLineOf r second ∷ []) + 23 * 0 ≤ 23
+time-small r N.Nothing h k l = one clock27Name _ (8 ∷ []) (omega arith, tt) (lit≤ tt)
+time-small r (N.High high) h k l = one clockName _ (14 ∷ []) (omega arith, tt) (lit≤ tt)
+
+small : (f : Form) (word : ℕ) → Small (itemFrom f word)
+unfolding blockHeaderOf parametersOf trailerOf eventHeaderOf triggerTimeOf triggerTimeHighOf emptyOf fillerOf windowOf pulseRawOf pairOf integralOf timeOf pedestalOf
+small F.Block w = record { line = λ b h. one blockName _ (1 ∷ 3 ∷ 2 ∷ []) (field-lt w 22 5 2 tt, (field-lt w 8 10 4 tt, (field-lt w 0 8 3 tt, tt))) (lit≤ tt); high = tt }
+small F.Parameters w = record { line = λ b h. one setupName _ (3 ∷ 2 ∷ 2 ∷ []) (field-lt w 18 11 4 tt, (field-lt w 9 9 3 tt, (field-lt w 0 9 3 tt, tt))) (lit≤ tt); high = tt }
+small F.Trailer w = record { line = λ b h. one endName _ (6 ∷ []) (field-lt w 0 22 7 tt, tt) (lit≤ tt); high = tt }
+small F.Event w = record { line = λ b h. one eventName _ (6 ∷ []) (field-lt w 0 22 7 tt, tt) (lit≤ tt); high = tt }
+small F.Clock w = record { line = λ b h. time-small _ (secondOf b) (field-lt w 24 3 1 tt) (field-small w 0 24) h; high = tt }
+small F.ClockHigh w = record { line = λ b h. omega (arith, size-none); high = field-small w 0 24 }
+small F.Window w = record { line = λ b h. one windowName _ (1 ∷ 3 ∷ []) (field-lt w 23 4 2 tt, (field-lt w 0 12 4 tt, tt)) (lit≤ tt); high = tt }
+small F.Raw w = record { line = λ b h. one pulseName _ (1 ∷ 0 ∷ 3 ∷ []) (field-lt w 23 4 2 tt, (field-lt w 21 2 1 tt, (field-lt w 0 10 4 tt, tt))) (lit≤ tt); high = tt }
+small F.Pair w = record { line = λ b h. one pairName _ (3 ∷ 3 ∷ []) (pair-below (eqb (fieldAt w 29 1) 1) (eqb (fieldAt w 13 1) 1) (fieldAt w 16 13) (fieldAt w 0 13) (field-lt w 16 13 4 tt) (field-lt w 0 13 4 tt)) (lit≤ tt); high = tt }
+small F.Integral w = record { line = λ b h. one integralName _ (1 ∷ 0 ∷ 0 ∷ 5 ∷ []) (field-lt w 23 4 2 tt, (field-lt w 21 2 1 tt, (field-lt w 19 2 1 tt, (field-lt w 0 19 6 tt, tt)))) (lit≤ tt); high = tt }
+small F.Time w = record { line = λ b h. one timeName _ (1 ∷ 0 ∷ 0 ∷ 2 ∷ 1 ∷ []) (field-lt w 23 4 2 tt, (field-lt w 21 2 1 tt, (field-lt w 19 2 1 tt, (field-lt w 6 9 3 tt, (field-lt w 0 6 2 tt, tt))))) (lit≤ tt); high = tt }
+small F.Pedestal w = record { line = λ b h. one pedName _ (1 ∷ 0 ∷ 2 ∷ 3 ∷ []) (field-lt w 23 4 2 tt, (field-lt w 21 2 1 tt, (field-lt w 12 9 3 tt, (field-lt w 0 12 4 tt, tt)))) (lit≤ tt); high = tt }
+small F.Empty w = record { line = λ b h. one emptyName _ (1 ∷ []) (field-lt w 22 5 2 tt, tt) (lit≤ tt); high = tt }
+small F.Filler w = record { line = λ b h. omega (arith, size-none); high = tt }
+small F.No w = record { line = λ b h. omega (arith, size-none); high = tt }
+small F.End w = record { line = λ b h. omega (arith, size-none); high = tt }
+
+-- ---- one word
+
+abbrev Near : Scan → Type 0
+Near s = s .place < 2 ^ 32
+
+-- a record is small and the next place near; a refusal's number has two digits
+abbrev Good : Judged → Type 0
+Good (J.Took x t) = Small x × Near t
+Good (J.Refused number) = number < 100
+Good J.Ended = Unit
+
+lt-cond : (b : Bool) (x y m : ℕ) → x < m → y < m → cond b x y < m
+lt-cond true x y m g h = g
+lt-cond false x y m g h = h
+
+refusal-lt : (s : Scan) (f : Form) (word : ℕ) → refusalOf s f word < 100
+unfolding refusalOf firstOf
+refusal-lt s f word =
+    lt-cond (atLimit s) _ _ 100 (lit< tt) (lt-cond (isNo f) _ _ 100 (lit< tt) (lt-cond (slotWrong s (itemFrom f word)) _ _ 100 (lit< tt) (lt-cond (not (fixedIn f word) || itemWrong s (itemFrom f word)) _ _ 100 (lit< tt) (lt-cond (countWrong s (itemFrom f word)) _ _ 100 (lit< tt) (lit< tt)))))
+
+near-after : (s : Scan) (x : Item) → Near (after s x)
+unfolding after onward
+near-after s x = omega arith
+
+good : (s : Scan) (word : ℕ) → Good (judgeAt s word)
+unfolding judgeAt stepAt
+good s word = go (isEnd f) (eqb (refusalOf s f word) 0)
+  where
+    f : Form
+    f = formAt s word
+
+    go : (a b : Bool) → Good (withItem word (cond a S.Ended (cond b (S.Went f (after s (itemFrom f word))) (S.Refused (refusalOf s f word)))))
+    go true b = tt
+    go false true = (small f word, near-after s (itemFrom f word))
+    go false false = refusal-lt s f word
+
+-- ---- one block
+
+record SmallReading (r : Reading) : Type 0 where
+  lines : size (itemLines (r .items)) + 23 * fillersIn (r .items) ≤ 23 * length (r .items)
+  second : HighSmall (secondOf (r .items))
+  ends : size (outLines (r .out)) ≤ 22
+
+refused-le : (number place : ℕ) → number < 100 → place < 2 ^ 32 → size (refusedLine number place ∷ []) ≤ 22
+refused-le number place h k = size-one refusedName _ (1 ∷ 9 ∷ []) 22 (h, (omega arith, tt)) (lit≤ tt)
+
+small-none : (o : Out) → size (outLines o) ≤ 22 → SmallReading (just o)
+unfolding itemLines fillersIn
+small-none o h = record { lines = omega (arith, size-none); second = tt; ends = h }
+
+end-le : (s : Scan) → Near s → size (outLines (endOf s)) ≤ 22
+unfolding endOf
+end-le s h = go (atLimit s) (unfinished (s .phase))
+  where
+    go : (a b : Bool) → size (outLines (cond a (Broken 14 (s .place)) (cond b (Broken 11 (s .place)) (Whole (s .place))))) ≤ 22
+    go true b = refused-le 14 (s .place) (lit< tt) h
+    go false true = refused-le 11 (s .place) (lit< tt) h
+    go false false = omega (arith, size-none)
+
+small-reading : (s : Scan) (words : List ℕ) → Near s → SmallReading (readFrom s words)
+unfolding readFrom itemLines fillersIn
+small-reading s [] h = small-none (endOf s) (end-le s h)
+small-reading s (word ∷ words) h = go (judgeAt s word) (good s word) (λ t n. small-reading t words n)
+  where
+    go : (j : Judged) → Good j → ((t : Scan) → Near t → SmallReading (readFrom t words)) → SmallReading (onJudged j (s .place) (λ t. readFrom t words))
+    go (J.Took x t) g r =
+        let rest = readFrom t words in
+        let i : SmallReading rest = r t (g .1) in
+        record {
+          lines = omega (arith, size-both (recordLines x (rest .items)) (itemLines (rest .items)), g .0 .line (rest .items) (i .second), i .lines);
+          second = g .0 .high;
+          ends = i .ends;
+        }
+    go (J.Refused n) g r = small-none (Broken n (s .place)) (refused-le n (s .place) g h)
+    go J.Ended g r = small-none (Whole (s .place)) (omega (arith, size-none))
+
+fill-le : (n : ℕ) → n < 10 ^ 17 → size (fillLines n) ≤ 23 * n
+fill-le zero h = omega (arith, size-none)
+fill-le (suc n) h = rw (ne-eqb (suc n) 0 (λ e. omega arith)) (omega (arith, size-one fillName (Number (suc n) ∷ []) (16 ∷ []) 23 (h, tt) (lit≤ tt)))
+
+block-le : (r : Reading) → SmallReading r → length (r .items) < 10 ^ 17 → size (blockLines r) ≤ 23 * length (r .items) + size (outLines (r .out))
+unfolding blockLines
+block-le r i h =
+    let n = fillersIn (r .items) in
+    omega (arith, i .lines, fill-le n (omega (arith, i .lines)), size-both (itemLines (r .items)) (fillLines n ++ outLines (r .out)), size-both (fillLines n) (outLines (r .out)))
+
+-- ---- an input
+
+lines-le : (skip : ℕ) (words : List ℕ) → length words < 10 ^ 17 → size (linesFrom skip words) ≤ 23 * (length words - skip) + 22
+unfolding linesFrom
+lines-le skip [] h = omega (arith, size-none)
+lines-le (suc skip) (word ∷ words) h = omega (arith, lines-le skip words (omega arith))
+lines-le zero (word ∷ words) h =
+    go (r .out) (blockLines r) (linesFrom (length (r .items) - 1) words) (block-le r i (omega (arith, count))) (i .ends) (whole-some word words) (lines-le (length (r .items) - 1) words (omega arith))
+  where
+    r : Reading
+    r = readFrom startOf (word ∷ words)
+
+    count : length (r .items) ≤ suc (length words)
+    count = items-le startOf (word ∷ words)
+
+    i : SmallReading r
+    i = small-reading startOf (word ∷ words) (lit< tt)
+
+    go : (o : Out) (block behind : List Line) → size block ≤ 23 * length (r .items) + size (outLines o) → size (outLines o) ≤ 22 → (isWhole o ≡ true → 0 < length (r .items))
+        → size behind ≤ 23 * (length words - (length (r .items) - 1)) + 22 → size (block ++ cond (isWhole o) behind []) ≤ 23 * (suc (length words) - 0) + 22
+    go (Whole n) block behind a b w d = omega (arith, count, w refl, size-none, size-both block behind)
+    go (Broken n p) block behind a b w d = omega (arith, count, size-none, size-both block [])
+
+pub listing-le : (bytes : List ℕ) → length (listingOf bytes) ≤ 376854
+unfolding listingOf linesOf
+listing-le bytes = go (lengthWrong (length bytes)) refl
+  where
+    short : (a : Bool) (n : ℕ) → (a || ltb 65536 n) ≡ false → n ≤ 65536
+    short true n e = let z : _≡_ {A = ℕ} 0 1 = cc in omega arith
+    short false n e = ltb-false 65536 n e
+
+    go : (b : Bool) → lengthWrong (length bytes) ≡ b → size (cond b (refusedLine 16 0 ∷ []) (linesFrom 0 (wordsOfBytes bytes))) ≤ 376854
+    go true e = omega (arith, refused-le 16 0 (lit< tt) (lit< tt))
+    go false e =
+        let n : length bytes ≤ 65536 = short (not (eqb (length bytes % 4) 0)) (length bytes) e in
+        omega (arith, words-le bytes, lines-le 0 (wordsOfBytes bytes) (omega (arith, words-le bytes)))
+
+-- a buffer of so many bytes has room for every text
+pub always-room : (bytes : List ℕ) {text : List ℕ} {r : Listed} {text′ : List ℕ} {n : ℕ} → 376854 ≤ length text → r ≡ L.NoRoom n → Says (listingOf bytes) text r text′ → ⊥
+always-room bytes {text} h e s =
+    let f : leb (length (listingOf bytes)) (length text) ≡ true = le-leb (length (listingOf bytes)) (length text) (omega (arith, listing-le bytes)) in
+    let a = rw f at (s .answer) in
+    let z : _≡_ {A = ℕ} 0 1 = cc in
+    omega arith

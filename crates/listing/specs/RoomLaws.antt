@@ -1,0 +1,60 @@
+-- A text is put on no page first, and so counted; then in the buffer where it fits. Assumes nothing.
+use Prim.Native.Nat.{ℕ, _≤_, _<_}
+use mathlib.Core.Path.{_≡_, refl, sym, ap, _∙_}
+use mathlib.Core.Bool.{Bool, true, false, cond}
+use mathlib.Core.List.{List, [], _∷_, _++_}
+use native.Mathlib.Omega.{arith}
+use borrow.Author.Tests.{le-leb, lt-leb}
+use lib.Dec.{leb}
+use lib.ListN.{length, drop, take, length-append}
+use lib.Seq.{length-take-le}
+use Rattle.ground.specs.ResultLaws.{one-result}
+use Rattle.text.specs.Page.{Page, farthest, put}
+use Rattle.text.specs.PageLaws.{put-length, put-all, place-all}
+use Rattle.listing.specs.declared.Listed.{Listed}
+use Rattle.listing.specs.declared.Listed.the-variants as L
+use Rattle.listing.specs.Says.{Says}
+
+nil-of : (l : List ℕ) → length l ≡ 0 → l ≡ []
+nil-of [] e = refl
+nil-of (x ∷ l) e = absurd (omega arith)
+
+module _ (all text none : List ℕ) (n : ℕ) (short : length all ≤ farthest) (e : _≡_ {A = Page} (none, n) (put ([], 0) all)) where
+  none-put : none ≡ []
+  none-put = nil-of none (ap (λ (p : Page). length (p .0)) e ∙ put-length ([], 0) all)
+
+  counted : n ≡ length all
+  counted = ap (λ (p : Page). p .1) e ∙ place-all [] all ∙ omega arith
+
+  pub no-room : length (none ++ text) < n → Says all text (L.NoRoom n) (none ++ text)
+  no-room h =
+      let k : length text < n = rw none-put at h in
+      let f : leb (length all) (length text) ≡ _ = lt-leb (length all) (length text) (omega (arith, counted)) in
+      record { answer = rw f (ap L.NoRoom counted); bytes = rw (f, none-put) }
+
+  pub room : (r : ℕ) (text′ : List ℕ) → n ≤ length (none ++ text) → length text < farthest → _≡_ {A = Page} (text′, r) (put (none ++ text, 0) all) → Says all text (L.Text r) text′
+  room r text′ h m g =
+      let k : n ≤ length text = rw none-put at h in
+      let i : length all ≤ length text = omega (arith, counted) in
+      let f : leb (length all) (length text) ≡ _ = le-leb (length all) (length text) i in
+      let g′ : _≡_ {A = Page} (text′, r) (put (text, 0) all) = rw none-put at g in
+      record {
+        answer = rw f (ap L.Text (ap (λ (p : Page). p .1) g′ ∙ place-all text all ∙ omega arith));
+        bytes = rw f (ap (λ (p : Page). p .0) g′ ∙ put-all text all i (omega arith));
+      }
+
+-- two answers that the statement allows are equal, and so is what they leave
+pub one-listing : {all text : List ℕ} {r r′ : Listed} {b b′ : List ℕ} → Says all text r b → Says all text r′ b′ → (r ≡ r′) × (b ≡ b′)
+one-listing p q = (one-result (p .answer) (q .answer), one-result (p .bytes) (q .bytes))
+
+-- a text that is told lies in the buffer
+module _ {all text : List ℕ} {r : Listed} {k : ℕ} {text′ : List ℕ} (e : r ≡ L.Text k) (s : Says all text r text′) where
+  pub within : k ≤ length text′
+  within = go (leb (length all) (length text)) (sym e ∙ s .answer) (s .bytes)
+    where
+      go : (b : Bool) → L.Text k ≡ cond b (L.Text (length all)) (L.NoRoom (length all)) → text′ ≡ cond b (all ++ drop (length all) text) text → k ≤ length text′
+      go true f g = let z : k ≡ length all = cc in rw (z, g, length-append) (omega arith)
+      go false f g = let z : _≡_ {A = ℕ} 0 1 = cc in absurd (omega arith)
+
+  pub within-take : k ≡ length (take k text′)
+  within-take = sym (length-take-le k text′ within)
