@@ -5,3 +5,4 @@ pub mod Own
 pub mod OwnLaws
 pub mod FirstWrong
 pub mod NothingLost
+pub mod Runs
