@@ -6,3 +6,6 @@ pub mod OwnLaws
 pub mod FirstWrong
 pub mod NothingLost
 pub mod Runs
+pub mod Layout
+pub mod LayoutLaws
+pub mod AcceptedLaws

@@ -40,13 +40,13 @@ Spell (x ∷ xs) (w ∷ ws) = (wordOf x ≡ cleanOf (formOf x) w) × Spell xs ws
 
 -- ---- a form says what bit 31 and the type are
 
-record Real (f : Form) : Type 0 where
-  word : isNo f ≡ false
-  more : isEnd f ≡ false
+pub record Real (f : Form) : Type 0 where
+  pub word : isNo f ≡ false
+  pub more : isEnd f ≡ false
 
-record Tagged (f : Form) (b k : ℕ) : Type 0 where
-  bit : b ≡ bitOf f
-  type : bitOf f ≡ 1 → k ≡ typeOf f
+pub record Tagged (f : Form) (b k : ℕ) : Type 0 where
+  pub bit : b ≡ bitOf f
+  pub type : bitOf f ≡ 1 → k ≡ typeOf f
 
 unreal-no : {A : Type 0} → Real F.No → A
 unreal-no r = absurd (true≢false (r .word))
@@ -155,7 +155,7 @@ word-back F.Filler w l r t z = filler-back w l (defines 15 w (t .bit) (t .type r
 word-back F.No w l r t z = unreal-no r
 word-back F.End w l r t z = unreal-end r
 
-form-back : (f : Form) (w : ℕ) → Real f → formOf (itemFrom f w) ≡ f
+pub form-back : (f : Form) (w : ℕ) → Real f → formOf (itemFrom f w) ≡ f
 form-back F.Block w r = refl
 form-back F.Parameters w r = refl
 form-back F.Trailer w r = refl
@@ -177,14 +177,18 @@ or-left : (a b : Bool) → (a || b) ≡ false → a ≡ false
 or-left true b h = h
 or-left false b h = refl
 
+pub real-of : (s : Scan) (w : ℕ) (f : Form) (u : Scan) → Accepted s w f u → Real f
+real-of s w f u a = record { word = a .off .1 .0; more = a .here }
+
+pub tag-of : (s : Scan) (w : ℕ) (f : Form) (u : Scan) → Accepted s w f u → Tagged f (read 31 31 w) (read 30 27 w)
+unfolding formAt
+tag-of s w f u a = rw (a .form) at (form-tag (s .phase) (read 31 31 w) (read 30 27 w) (field-lt w 31 1) (rw (a .form) (real-of s w f u a)))
+
 -- what was taken, built again, is the word
 took : (s : Scan) (w : ℕ) (f : Form) (u : Scan) → w < 2 ^ 32 → Accepted s w f u → wordOf (itemFrom f w) ≡ cleanOf (formOf (itemFrom f w)) w
-unfolding formAt
 took s w f u l a =
-    let r : Real f = record { word = a .off .1 .0; more = a .here } in
-    let b : read 31 31 w < 2 = field-lt w 31 1 in
-    let t : Tagged f (read 31 31 w) (read 30 27 w) = rw (a .form) at (form-tag (s .phase) (read 31 31 w) (read 30 27 w) b (rw (a .form) r)) in
-    word-back f w l r t (not-false _ (or-left (not (fixedIn f w)) (itemWrong s (itemFrom f w)) (a .off .1 .1 .1 .0)))
+    let r : Real f = real-of s w f u a in
+    word-back f w l r (tag-of s w f u a) (not-false _ (or-left (not (fixedIn f w)) (itemWrong s (itemFrom f w)) (a .off .1 .1 .1 .0)))
     ∙ ap (λ (g : Form). cleanOf g w) (sym (form-back f w r))
 
 -- "no two blocks read alike": the records before a run's end are spelt by the words read

@@ -81,9 +81,9 @@ abbrev pub eventLine : EventHeader → Line
 eventLine r = lineOf eventName (Number (r .number) ∷ [])
 
 -- "clock: 48-bit time" of two time words, the second holding bits 47-24; "`clock27` low 27 bits" of one
-abbrev pub timeLineOf : TriggerTime → Second → Line
-timeLineOf r S.Nothing = lineOf clock27Name (Number (r .middle * 2 ^ 24 + r .low) ∷ [])
-timeLineOf r (S.High high) = lineOf clockName (Number (high * 2 ^ 24 + r .low) ∷ [])
+abbrev pub clockLine : TriggerTime → Second → Line
+clockLine r S.Nothing = lineOf clock27Name (Number (r .middle * 2 ^ 24 + r .low) ∷ [])
+clockLine r (S.High high) = lineOf clockName (Number (high * 2 ^ 24 + r .low) ∷ [])
 
 -- "`window` channel, width"
 abbrev pub windowLine : WindowRaw → Line

@@ -5,7 +5,7 @@ ghost use Prim.Native.Nat.{_≤_};
 ghost use lib.Dec.{eqb};
 ghost use Rattle.text.specs.Page.{put};
 ghost use Rattle.text.specs.Line.{lineText, textOf};
-ghost use Rattle.lines.specs.Lines.{blockLine, setupLine, eventLine, timeLineOf, windowLine, pulseLine, pairLine, integralLine, timeLine, pedLine, endLine, emptyLine, refusedLine, fillLines};
+ghost use Rattle.lines.specs.Lines.{blockLine, setupLine, eventLine, clockLine, windowLine, pulseLine, pairLine, integralLine, timeLine, pedLine, endLine, emptyLine, refusedLine, fillLines};
 use frame::block_header::BlockHeader;
 use frame::empty::ModuleEmpty;
 use frame::event_header::EventHeader;
@@ -18,6 +18,9 @@ use measures::time::PulseTime;
 use raw::pair::SamplePair;
 use raw::pulse_raw::PulseRaw;
 use raw::window::WindowRaw;
+
+// A second time word's bits begin at bit 24 of the time.
+const BIT_24: u64 = 16777216;
 
 // What follows a first time word: a second with time bits 47-24, or none.
 pub enum Second {
@@ -47,16 +50,16 @@ pub fn put_event(text: &mut [u8], at: usize, r: EventHeader) -> usize
 }
 
 // One time word: the low 27 bits. Two: the 48-bit time.
-pub fn put_time(text: &mut [u8], at: usize, r: TriggerTime, second: Second) -> usize
-    ensures { λ k. ⌜ (now (text .exit), k) ≡ put (now (text .entry), at) (lineText (timeLineOf r second)) ⌝ }
+pub fn put_clock(text: &mut [u8], at: usize, r: TriggerTime, second: Second) -> usize
+    ensures { λ k. ⌜ (now (text .exit), k) ≡ put (now (text .entry), at) (lineText (clockLine r second)) ⌝ }
 {
     match second {
         Second::Nothing => {
-            let cells = [(r.middle as u64) * 16777216 + r.low as u64];
+            let cells = [(r.middle as u64) * BIT_24 + r.low as u64];
             text::put_line(text, at, b"clock27", &cells, 0)
         }
         Second::High(high) => {
-            let cells = [(high as u64) * 16777216 + r.low as u64];
+            let cells = [(high as u64) * BIT_24 + r.low as u64];
             text::put_line(text, at, b"clock", &cells, 0)
         }
     }
@@ -102,7 +105,7 @@ pub fn put_integral(text: &mut [u8], at: usize, r: PulseIntegral) -> usize
     text::put_line(text, at, b"integral", &cells, 0)
 }
 
-pub fn put_pulse_time(text: &mut [u8], at: usize, r: PulseTime) -> usize
+pub fn put_time(text: &mut [u8], at: usize, r: PulseTime) -> usize
     ensures { λ k. ⌜ (now (text .exit), k) ≡ put (now (text .entry), at) (lineText (timeLine r)) ⌝ }
 {
     let cells = [

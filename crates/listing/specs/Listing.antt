@@ -4,7 +4,6 @@ use mathlib.Core.Bool.{Bool, true, false, cond, not, _||_}
 use mathlib.Core.List.{List, [], _∷_, _++_}
 use lib.Dec.{eqb, ltb}
 use lib.ListN.{length}
-use Rattle.frame.specs.declared.parameters.Parameters.{Parameters}
 use Rattle.items.specs.declared.Item.{Item}
 use Rattle.items.specs.declared.Item.the-variants as I
 use Rattle.reader.specs.Reader.{Out, Whole, Broken, Reading, startOf, readFrom}
@@ -12,7 +11,7 @@ use Rattle.host.specs.Check.{wordsOfBytes}
 use Rattle.text.specs.Line.{Line, textOf}
 use Rattle.lines.specs.declared.Second.{Second}
 use Rattle.lines.specs.declared.Second.the-variants as S
-use Rattle.lines.specs.Lines.{blockLine, setupLine, eventLine, timeLineOf, windowLine, pulseLine, pairLine, integralLine, timeLine, pedLine, endLine, emptyLine, refusedLine, fillLines}
+use Rattle.lines.specs.Lines.{blockLine, setupLine, eventLine, clockLine, windowLine, pulseLine, pairLine, integralLine, timeLine, pedLine, endLine, emptyLine, refusedLine, fillLines}
 
 -- ---- the lines of a block
 
@@ -43,7 +42,7 @@ recordLines (I.Block r) behind = blockLine r ∷ []
 recordLines (I.Parameters r) behind = setupLine r ∷ []
 recordLines (I.Trailer r) behind = endLine r ∷ []
 recordLines (I.Event r) behind = eventLine r ∷ []
-recordLines (I.Clock r) behind = timeLineOf r (secondOf behind) ∷ []
+recordLines (I.Clock r) behind = clockLine r (secondOf behind) ∷ []
 recordLines (I.ClockHigh r) behind = []
 recordLines (I.Window r) behind = windowLine r ∷ []
 recordLines (I.Raw r) behind = pulseLine r ∷ []
@@ -54,10 +53,12 @@ recordLines (I.Pedestal r) behind = pedLine r ∷ []
 recordLines (I.Empty r) behind = emptyLine r ∷ []
 recordLines (I.Filler r) behind = []
 
+-- the lines of records in their order
 unfoldable pub itemLines : List Item → List Line
 itemLines [] = []
 itemLines (x ∷ xs) = recordLines x xs ++ itemLines xs
 
+-- how many fillers
 abbrev pub fillerIn : Item → ℕ
 fillerIn (I.Block r) = 0
 fillerIn (I.Parameters r) = 0
@@ -87,6 +88,7 @@ abbrev pub outLines : Out → List Line
 outLines (Whole words) = []
 outLines (Broken number place) = refusedLine number place ∷ []
 
+-- the records' lines, then the fillers' line, then a refusal's
 unfoldable pub blockLines : Reading → List Line
 blockLines r = itemLines (r .items) ++ (fillLines (fillersIn (r .items)) ++ outLines (r .out))
 

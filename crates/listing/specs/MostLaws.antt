@@ -31,7 +31,7 @@ use Rattle.lines.specs.declared.Second.{Second}
 use Rattle.lines.specs.declared.Second.the-variants as N
 use Rattle.listing.specs.declared.Listed.{Listed}
 use Rattle.listing.specs.declared.Listed.the-variants as L
-use Rattle.lines.specs.Lines.{blockName, setupName, eventName, clockName, clock27Name, windowName, pulseName, pairName, integralName, timeName, pedName, endName, fillName, emptyName, refusedName, refusedLine, fillLines, timeLineOf}
+use Rattle.lines.specs.Lines.{blockName, setupName, eventName, clockName, clock27Name, windowName, pulseName, pairName, integralName, timeName, pedName, endName, fillName, emptyName, refusedName, refusedLine, fillLines, clockLine}
 use Rattle.listing.specs.Listing.{highIn, secondOf, recordLines, itemLines, fillerIn, fillersIn, isWhole, outLines, blockLines, linesFrom, lengthWrong, linesOf, listingOf}
 use Rattle.listing.specs.Says.{Says}
 use Rattle.listing.specs.BlockLaws.{words-le, items-le, whole-some}
@@ -64,9 +64,9 @@ cell-below false n d cells ds h r = (h, r)
 pair-below : (a b : Bool) (m n : ℕ) → m < 10 ^ 4 → n < 10 ^ 4 → Below (cellOf a m ∷ cellOf b n ∷ []) (3 ∷ 3 ∷ [])
 pair-below a b m n h k = cell-below a m 3 (cellOf b n ∷ []) (3 ∷ []) h (cell-below b n 3 [] [] k tt)
 
-time-small : (r : TriggerTime) (second : Second) → r .middle < 10 → r .low < 2 ^ 24 → HighSmall second → size (timeLineOf r second ∷ []) + 23 * 0 ≤ 23
-time-small r N.Nothing h k l = one clock27Name _ (8 ∷ []) (omega arith, tt) (lit≤ tt)
-time-small r (N.High high) h k l = one clockName _ (14 ∷ []) (omega arith, tt) (lit≤ tt)
+clock-small : (r : TriggerTime) (second : Second) → r .middle < 10 → r .low < 2 ^ 24 → HighSmall second → size (clockLine r second ∷ []) + 23 * 0 ≤ 23
+clock-small r N.Nothing h k l = one clock27Name _ (8 ∷ []) (omega arith, tt) (lit≤ tt)
+clock-small r (N.High high) h k l = one clockName _ (14 ∷ []) (omega arith, tt) (lit≤ tt)
 
 small : (f : Form) (word : ℕ) → Small (itemFrom f word)
 unfolding blockHeaderOf parametersOf trailerOf eventHeaderOf triggerTimeOf triggerTimeHighOf emptyOf fillerOf windowOf pulseRawOf pairOf integralOf timeOf pedestalOf
@@ -74,7 +74,7 @@ small F.Block w = record { line = λ b h. one blockName _ (1 ∷ 3 ∷ 2 ∷ [])
 small F.Parameters w = record { line = λ b h. one setupName _ (3 ∷ 2 ∷ 2 ∷ []) (field-lt w 18 11 4 tt, (field-lt w 9 9 3 tt, (field-lt w 0 9 3 tt, tt))) (lit≤ tt); high = tt }
 small F.Trailer w = record { line = λ b h. one endName _ (6 ∷ []) (field-lt w 0 22 7 tt, tt) (lit≤ tt); high = tt }
 small F.Event w = record { line = λ b h. one eventName _ (6 ∷ []) (field-lt w 0 22 7 tt, tt) (lit≤ tt); high = tt }
-small F.Clock w = record { line = λ b h. time-small _ (secondOf b) (field-lt w 24 3 1 tt) (field-small w 0 24) h; high = tt }
+small F.Clock w = record { line = λ b h. clock-small _ (secondOf b) (field-lt w 24 3 1 tt) (field-small w 0 24) h; high = tt }
 small F.ClockHigh w = record { line = λ b h. omega (arith, size-none); high = field-small w 0 24 }
 small F.Window w = record { line = λ b h. one windowName _ (1 ∷ 3 ∷ []) (field-lt w 23 4 2 tt, (field-lt w 0 12 4 tt, tt)) (lit≤ tt); high = tt }
 small F.Raw w = record { line = λ b h. one pulseName _ (1 ∷ 0 ∷ 3 ∷ []) (field-lt w 23 4 2 tt, (field-lt w 21 2 1 tt, (field-lt w 0 10 4 tt, tt))) (lit≤ tt); high = tt }

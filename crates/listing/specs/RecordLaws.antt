@@ -9,7 +9,7 @@ use Rattle.items.specs.declared.Item.{Item}
 use Rattle.items.specs.declared.Item.the-variants as I
 use Rattle.frame.specs.declared.trigger_time.TriggerTime.{TriggerTime}
 use Rattle.lines.specs.declared.Second.{Second}
-use Rattle.lines.specs.Lines.{timeLineOf}
+use Rattle.lines.specs.Lines.{clockLine}
 use Rattle.listing.specs.Listing.{secondOf, recordLines}
 
 -- the lines of the record x, which is y: one line, or none
@@ -20,5 +20,5 @@ pub item-none : {x y : Item} → x ≡ y → (p : Page) (behind : List Item) →
 item-none {x} e p behind g = say-none p (recordLines x behind) (ap (λ (z : Item). recordLines z behind) e ∙ g)
 
 -- the first time word's line, by the second
-pub item-time : {x : Item} {r : TriggerTime} → x ≡ I.Clock r → (p q : Page) (behind : List Item) {s : Second} → s ≡ secondOf behind → q ≡ put p (lineText (timeLineOf r s)) → q ≡ put p (textOf (recordLines x behind))
-item-time {x} {r} e p q behind {s} h f = item-line e p q behind (timeLineOf r s) f (ap (λ (z : Second). timeLineOf r z ∷ []) (sym h))
+pub item-clock : {x : Item} {r : TriggerTime} → x ≡ I.Clock r → (p q : Page) (behind : List Item) {s : Second} → s ≡ secondOf behind → q ≡ put p (lineText (clockLine r s)) → q ≡ put p (textOf (recordLines x behind))
+item-clock {x} {r} e p q behind {s} h f = item-line e p q behind (clockLine r s) f (ap (λ (z : Second). clockLine r z ∷ []) (sym h))

@@ -15,6 +15,9 @@ use lines::Second;
 use reader::Judged;
 use reader::Scan;
 
+// The most bytes of an input.
+const LONGEST: usize = 65536;
+
 // What one block leaves: the next place of the text, the bytes that it takes, whether it is whole.
 pub struct Block {
     pub at: usize,
@@ -83,13 +86,13 @@ fn put_item(text: &mut [u8], at: usize, item: Item, behind: &[u8], after: Scan) 
         Item::Parameters(r) => lines::put_setup(text, at, r),
         Item::Trailer(r) => lines::put_end(text, at, r),
         Item::Event(r) => lines::put_event(text, at, r),
-        Item::Clock(r) => lines::put_time(text, at, r, second_in(behind, after)),
+        Item::Clock(r) => lines::put_clock(text, at, r, second_in(behind, after)),
         Item::ClockHigh(_) => at,
         Item::Window(r) => lines::put_window(text, at, r),
         Item::Raw(r) => lines::put_pulse(text, at, r),
         Item::Pair(r) => lines::put_pair(text, at, r),
         Item::Integral(r) => lines::put_integral(text, at, r),
-        Item::Time(r) => lines::put_pulse_time(text, at, r),
+        Item::Time(r) => lines::put_time(text, at, r),
         Item::Pedestal(r) => lines::put_ped(text, at, r),
         Item::Empty(r) => lines::put_empty(text, at, r),
         Item::Filler(_) => at,
@@ -187,7 +190,7 @@ fn list_blocks(bytes: &[u8], text: &mut [u8]) -> usize
 fn put_listing(bytes: &[u8], text: &mut [u8]) -> usize
     ensures { λ r. ⌜ (now (text .exit), r) ≡ put (now (text .entry), 0) (listingOf (now (bytes .entry))) ⌝ }
 {
-    if (bytes.len() % 4 != 0) | (65536 < bytes.len()) {
+    if (bytes.len() % 4 != 0) | (LONGEST < bytes.len()) {
         return lines::put_refused(text, 0, 16, 0);
     }
     list_blocks(bytes, text)

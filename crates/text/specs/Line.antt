@@ -6,7 +6,7 @@ use lib.Dec.{eqb, ltb}
 use Rattle.ground.specs.Search.{least}
 use Rattle.io.specs.Digits.{digits}
 
--- "Numbers are decimal without leading zeros": the fewest digits that hold n; a 64-bit number has at most twenty
+-- a number is decimal without leading zeros: the fewest digits that hold n, of which a 64-bit number has at most twenty
 unfoldable pub placesOf : ℕ → ℕ
 placesOf n = least (λ k. ltb n (10 ^ k)) 0 20
 
@@ -34,7 +34,7 @@ pub record Line : Type 0 where
 abbrev pub lineOf : List ℕ → List Cell → Line
 lineOf name cells = record { name = name; cells = cells }
 
--- "lines end in a line feed"
+-- a line ends in a line feed
 unfoldable pub lineText : Line → List ℕ
 lineText l = l .name ++ (cellsText (l .cells) ++ 10 ∷ [])
 

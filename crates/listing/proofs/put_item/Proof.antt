@@ -1,6 +1,6 @@
 -- `listing::put_item` meets its contract: each record's line.
 use mathlib.Core.Path.{refl}
-use Rattle.listing.specs.RecordLaws.{item-line, item-none, item-time}
+use Rattle.listing.specs.RecordLaws.{item-line, item-none, item-clock}
 use borrow.Author.Needs.{needs}
 use Rattle.listing.proofs.put_item.Statement.{statement}
 use Rattle.listing.proofs.put_item.Tie as tie
@@ -18,7 +18,7 @@ returns-4 : tie.Need-returns-4
 returns-4 c = item-line (c .before .before .before .before .before .item4 .given .1) _ _ _ _ (c .before .before .put-event .ensures) refl
 
 returns-5 : tie.Need-returns-5
-returns-5 c = item-time (c .before .before .before .before .before .before .item5 .given .1) _ _ _ (c .before .before .before .second-in .ensures) (c .before .before .put-time .ensures)
+returns-5 c = item-clock (c .before .before .before .before .before .before .item5 .given .1) _ _ _ (c .before .before .before .second-in .ensures) (c .before .before .put-clock .ensures)
 
 returns-6 : tie.Need-returns-6
 returns-6 c = item-none (c .enum-told .given .1) _ _ refl
@@ -36,7 +36,7 @@ returns-10 : tie.Need-returns-10
 returns-10 c = item-line (c .before .before .before .before .before .item9 .given .1) _ _ _ _ (c .before .before .put-integral .ensures) refl
 
 returns-11 : tie.Need-returns-11
-returns-11 c = item-line (c .before .before .before .before .before .item10 .given .1) _ _ _ _ (c .before .before .put-pulse-time .ensures) refl
+returns-11 c = item-line (c .before .before .before .before .before .item10 .given .1) _ _ _ _ (c .before .before .put-time .ensures) refl
 
 returns-12 : tie.Need-returns-12
 returns-12 c = item-line (c .before .before .before .before .before .item11 .given .1) _ _ _ _ (c .before .before .put-ped .ensures) refl

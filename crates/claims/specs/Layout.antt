@@ -1,0 +1,26 @@
+-- The layout of a block, said of records: which may stand where, with which fields. No word is read here. Assumes nothing.
+use mathlib.Core.Path.{_≡_}
+use mathlib.Core.Bool.{true, false}
+use mathlib.Core.List.{List, [], _∷_}
+use Rattle.items.specs.Items.{fits, formOf, bitOf, typeOf}
+use Rattle.items.specs.declared.Item.{Item}
+use Rattle.reader.specs.declared.Scan.{Scan}
+use Rattle.reader.specs.Reader.{startOf, formFor, unfinished, atLimit, slotWrong, itemWrong, countWrong, after}
+
+-- the record may stand where the reading of a block stands
+pub record Stands (s : Scan) (x : Item) : Type 0 where
+  pub limit : atLimit s ≡ false
+  pub type : formFor s (bitOf (formOf x)) (typeOf (formOf x)) ≡ formOf x
+  pub slot : slotWrong s x ≡ false
+  pub fields : itemWrong s x ≡ false
+  pub count : countWrong s x ≡ false
+  pub widths : fits x ≡ true
+
+-- the records stand one after the other, and nothing is missing behind the last
+abbrev pub Follow : Scan → List Item → Type 0
+Follow s [] = unfinished (s .phase) ≡ false
+Follow s (x ∷ xs) = Stands s x × Follow (after s x) xs
+
+-- a whole block of records
+abbrev pub IsBlock : List Item → Type 0
+IsBlock xs = Follow startOf xs
