@@ -1,7 +1,7 @@
 -- Demand 2: "a block that breaks the layout is refused": what the reader takes as a whole block is one of the layout. Assumes nothing.
 use Prim.Native.Nat.{ℕ, _+_, _-_, _^_, _<_}
 use mathlib.Core.Path.{_≡_, refl, sym, ap, _∙_, subst}
-use mathlib.Core.Bool.{Bool, true, false, cond, not, _&&_, _||_, true≢false}
+use mathlib.Core.Bool.{Bool, true, false, cond, not, _||_, true≢false}
 use mathlib.Core.List.{List, [], _∷_}
 use native.Mathlib.Omega.{arith}
 use borrow.Author.Tests.{le-leb}
@@ -24,11 +24,9 @@ use Rattle.reader.specs.ReaderLaws.{Accepted, accepted}
 use Rattle.claims.specs.NothingLost.{Real, Tagged, form-back, real-of, tag-of}
 use Rattle.claims.specs.Layout.{Stands, Follow, IsBlock}
 use Rattle.claims.specs.LayoutLaws.{form-by}
+use Rattle.claims.specs.PassLaws.{both}
 
 -- ---- what was read is within its width
-
-both : {a b : Bool} → a ≡ true → b ≡ true → (a && b) ≡ true
-both p q = rw (p, q)
 
 read-le : (high low w : ℕ) → leb (read high low w) (2 ^ (high + 1 - low) - 1) ≡ true
 read-le high low w =

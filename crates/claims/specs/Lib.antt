@@ -5,7 +5,11 @@ pub mod Own
 pub mod OwnLaws
 pub mod FirstWrong
 pub mod NothingLost
-pub mod Runs
+pub mod BenchRuns
 pub mod Layout
 pub mod LayoutLaws
 pub mod AcceptedLaws
+pub mod PassLaws
+pub mod WrittenLaws
+pub mod Run
+pub mod RunLaws

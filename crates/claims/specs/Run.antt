@@ -1,0 +1,30 @@
+-- A run of calls since a block was opened: every call from the state that the last one gave and with the same buffer, any store at each, refused calls
+-- between. Beside it stand the records written so far. Assumes nothing.
+use Prim.Native.Nat.{ℕ}
+use mathlib.Core.Path.{_≡_}
+use mathlib.Core.List.{List, _++_}
+use Rattle.settings.specs.Refusal.{numberOf}
+use Rattle.items.specs.declared.Item.{Item}
+use Rattle.writer.specs.declared.State.{State}
+use Rattle.writer.specs.declared.Answer.{Answer}
+use Rattle.writer.specs.declared.Finished.{Finished}
+use Rattle.writer.specs.Calls.{blockItems, OpenBlockSays, OpenEventSays, PostSays, closingItems, CloseSays, FinishSays}
+
+pub data Run : State → List ℕ → List Item → Type 0 where
+  -- an accepted opening
+  opened : (s : State) (words : List ℕ) (number events : ℕ) (r : Answer) (words′ : List ℕ) → OpenBlockSays s words number events r words′ → numberOf (r .refusal) ≡ 0
+      → Run (r .state) words′ (blockItems (s .settings) number events)
+  -- an event opened, a channel posted; or refused
+  begun : {s : State} {words : List ℕ} {xs : List Item} → Run s words xs → (number time : ℕ) (r : Answer) → OpenEventSays s number time r → Run (r .state) words xs
+  posted : {s : State} {words : List ℕ} {xs : List Item} → Run s words xs → (store : List ℕ) (c : ℕ) (w : List ℕ) (r : Answer) (store′ : List ℕ) → PostSays s store c w r store′
+      → Run (r .state) words xs
+  -- an accepted close
+  closed : {s : State} {words : List ℕ} {xs : List Item} → Run s words xs → (store : List ℕ) (r : Answer) (words′ : List ℕ) → CloseSays s store words r words′
+      → numberOf (r .refusal) ≡ 0 → Run (r .state) words′ (xs ++ closingItems s store)
+  -- a refused close, opening or finish
+  not-closed : {s : State} {words : List ℕ} {xs : List Item} → Run s words xs → (store : List ℕ) (r : Answer) (words′ : List ℕ) → CloseSays s store words r words′
+      → (numberOf (r .refusal) ≡ 0 → ⊥) → Run (r .state) words′ xs
+  not-opened : {s : State} {words : List ℕ} {xs : List Item} → Run s words xs → (number events : ℕ) (r : Answer) (words′ : List ℕ) → OpenBlockSays s words number events r words′
+      → (numberOf (r .refusal) ≡ 0 → ⊥) → Run (r .state) words′ xs
+  not-finished : {s : State} {words : List ℕ} {xs : List Item} → Run s words xs → (r : Finished) (words′ : List ℕ) → FinishSays s words r words′
+      → (numberOf (r .refusal) ≡ 0 → ⊥) → Run (r .state) words′ xs
