@@ -1,0 +1,96 @@
+-- `host::fadc250_check` meets its contract.
+use Prim.Native.Nat.{ℕ, _+_, _*_, _^_, _≤_, _%_, _-_}
+use mathlib.Core.Path.{refl, sym, ap, _∙_, _≡_}
+use mathlib.Core.List.{List}
+use native.Mathlib.Omega.{arith}
+use borrow.Author.Tests.{ne-eqb}
+use borrow.Author.Needs.{needs}
+use lib.ListN.{drop-of-length-le, length, drop}
+use Rattle.reader.specs.Reader.{stepAt, onStep, endNumber, startOf, checkFrom}
+use Rattle.reader.specs.RunLaws.{end-by}
+use Rattle.reader.specs.declared.Scan.{Scan}
+use Rattle.reader.specs.declared.Step.{Step}
+use Rattle.host.specs.CheckLaws.{run-at, out-number, checked}
+use Rattle.host.specs.Check.{checkNumber, wordsOfBytes}
+use Rattle.host.proofs.fadc250_check.Statement.{statement}
+use Rattle.host.proofs.fadc250_check.Tie as tie
+
+abbrev Inv-loop : tie.InvT-loop
+Inv-loop bytes scan₀ at₀ scan at = ((at ≤ length bytes) × (at % 4 ≡ 0)) × (checkFrom startOf (wordsOfBytes bytes) ≡ checkFrom scan (wordsOfBytes (drop at bytes)))
+
+abbrev μ-loop : tie.MeasureT-loop
+μ-loop bytes scan₀ at₀ scan at = length bytes - at
+
+-- the run at the word that was read
+stepped : (c : tie.After-step Inv-loop μ-loop) {t : Step} → c .step .result ≡ t →
+    let l = c .before .before .before .before .before .before .before .loop in
+    let bytes = c .before .before .before .before .before .before .before .before .before .before .before .args .bytes .now in
+    checkFrom startOf (wordsOfBytes bytes) ≡ onStep t (l .scan .place) (λ u. checkFrom u (wordsOfBytes (drop (l .at + 4) bytes)))
+stepped c e =
+    let l = c .before .before .before .before .before .before .before .loop in
+    let bytes = c .before .before .before .before .before .before .before .before .before .before .before .args .bytes .now in
+    l .inv .1
+    ∙ run-at bytes (l .at) (l .scan) (omega arith) (c .step .ensures ∙ ap (stepAt (l .scan)) (c .before .of-bytes .ensures)) e
+
+-- the bytes are whole words
+whole : (c : tie.After-step Inv-loop μ-loop) → length (c .before .before .before .before .before .before .before .before .before .before .before .args .bytes .now) % 4 ≡ 0
+whole c = c .before .before .before .before .before .before .before .before .before .if1 .left
+
+returns : tie.Need-returns Inv-loop μ-loop
+unfolding checkNumber
+returns c = rw (ne-eqb _ _ (c .before .if1 .taken)) (c .numbered .ensures)
+
+loop-holds : tie.Need-loop-holds Inv-loop μ-loop
+loop-holds c = ((omega arith, refl), ap (λ (s : Scan). checkFrom s (wordsOfBytes (c .before .before .before .args .bytes .now))) (sym (c .start .ensures)))
+
+loop-again : tie.Need-loop-again Inv-loop μ-loop
+loop-again c = ((omega arith, omega arith), stepped (c .before .before .before) (c .before .step2 .given .1))
+
+returns-2 : tie.Need-returns-2 Inv-loop μ-loop
+returns-2 c = c .numbered2 .ensures ∙ checked _ (whole (c .before .before .before .before)) (stepped (c .before .before .before .before) (c .before .before .step3 .given .1))
+
+returns-3 : tie.Need-returns-3 Inv-loop μ-loop
+returns-3 c = c .numbered3 .ensures ∙ out-number 0 _ ∙ checked _ (whole (c .before .before .before)) (stepped (c .before .before .before) (c .before .enum-told .given .1))
+
+returns-4 : tie.Need-returns-4 Inv-loop μ-loop
+unfolding checkFrom
+returns-4 c =
+    let l = c .before .before .before .loop in
+    let bytes = c .before .before .before .before .before .before .before .args .bytes .now in
+    c .numbered4 .ensures
+    ∙ ap (λ (n : ℕ). n * 2 ^ 32 + l .scan .place) (c .before .at-end .ensures)
+    ∙ out-number (endNumber (l .scan)) (l .scan .place)
+    ∙ checked bytes (c .before .before .before .before .before .if1 .left) (l .inv .1 ∙ ap (λ (x : List ℕ). checkFrom (l .scan) (wordsOfBytes x)) (drop-of-length-le bytes {i = l .at} (omega arith)) ∙ end-by (l .scan))
+
+pub fadc250-check-spec : {M : Type 1} → statement M
+fadc250-check-spec =
+    tie.close
+    (tie.spec
+    Inv-loop
+    μ-loop
+    (λ c κs. search needs)
+    returns
+    (λ c κs. search needs)
+    loop-holds
+    (λ c. search needs)
+    (λ c. search needs)
+    (λ c. search needs)
+    (λ c. search needs)
+    (λ c. search needs)
+    (λ c. search needs)
+    (λ c. search needs)
+    (λ c κs. search needs)
+    (λ c κs. search needs)
+    (λ c. search needs)
+    (λ c. search needs)
+    (λ c. search needs)
+    loop-again
+    (λ c. search needs)
+    (λ c κs. search needs)
+    returns-2
+    (λ c. search needs)
+    (λ c κs. search needs)
+    returns-3
+    (λ c κs. search needs)
+    (λ c κs. search needs)
+    returns-4)

@@ -1,0 +1,11 @@
+-- `reader::question::high_wrong` meets its contract.
+use borrow.Author.Needs.{needs}
+use Rattle.reader.proofs.question.high_wrong.Statement.{statement}
+use Rattle.reader.proofs.question.high_wrong.Tie as tie
+
+returns : tie.Need-returns
+returns c = cc
+
+pub high-wrong-spec : {M : Type 1} → statement M
+high-wrong-spec =
+    tie.close (tie.spec (λ c κs. search needs) (λ c κs. search needs) (λ c κs. search needs) returns)

@@ -1,0 +1,12 @@
+-- `reader::question::trailer_wrong` meets its contract.
+use borrow.Author.Needs.{needs}
+use Rattle.frame.specs.Words.{trailerOf}
+use Rattle.reader.proofs.question.trailer_wrong.Statement.{statement}
+use Rattle.reader.proofs.question.trailer_wrong.Tie as tie
+
+returns : tie.Need-returns
+unfolding trailerOf
+returns c = cc
+
+pub trailer-wrong-spec : {M : Type 1} → statement M
+trailer-wrong-spec = tie.close (tie.spec (λ c. search needs) (λ c. search needs) (λ c κs. search needs) (λ c. search needs) returns)

@@ -1,0 +1,65 @@
+-- A run's laws: one word of it, what it answers without records, and the block of run A. Assumes nothing.
+use Prim.Native.Nat.{ℕ, suc, _<_}
+use mathlib.Core.Path.{_≡_, refl, ap, sym, _∙_}
+use mathlib.Core.Bool.{Bool, true, false, cond}
+use mathlib.Core.List.{List, [], _∷_}
+use lib.ListN.{length, getD, drop}
+use lib.Seq.{drop-cons}
+use Rattle.ground.specs.Tests.{firstOf}
+use Rattle.fields.specs.Word.{fieldAt}
+use Rattle.frame.specs.Words.{blockHeaderOf, blockHeaderFixed, blockHeaderWithin, parametersFixed, trailerOf, eventHeaderOf, triggerTimeOf, triggerTimeHighOf, triggerTimeHighFixed, fillerOf}
+use Rattle.measures.specs.Words.{timeFixed}
+use Rattle.items.specs.declared.Item.{Item}
+use Rattle.reader.specs.declared.Scan.{Scan}
+use Rattle.reader.specs.declared.Judged.{Judged}
+use Rattle.reader.specs.declared.Step.{Step}
+use Rattle.reader.specs.declared.Step.the-variants as S
+use Rattle.reader.specs.Reader.{Reading, then, formAt, atLimit, refusalOf, onward, after, stepAt, withItem, judgeAt, startOf, Whole, Broken, unfinished, endOf, endNumber, outOf, onJudged, readFrom, onStep, checkFrom}
+
+-- the list from i on, where it has not ended
+pub cons-at : (xs : List ℕ) (i j : ℕ) → i < length xs → suc i ≡ j → drop i xs ≡ getD xs i 0 ∷ drop j xs
+cons-at xs i j h e = drop-cons xs i 0 h ∙ ap (λ (n : ℕ). getD xs i 0 ∷ drop n xs) e
+
+-- records before those of a run
+abbrev pub before : List Item → Reading → Reading
+before [] r = r
+before (x ∷ xs) r = then x (before xs r)
+
+-- how a run ends does not depend on whether its records are made
+pub check-reads : (s : Scan) (words : List ℕ) → (readFrom s words) .out ≡ checkFrom s words
+unfolding readFrom checkFrom judgeAt
+check-reads s [] = refl
+check-reads s (word ∷ words) = go (stepAt s word) (λ t. check-reads t words)
+  where
+    go : (x : Step) → ((t : Scan) → (readFrom t words) .out ≡ checkFrom t words) → (onJudged (withItem word x) (s .place) (λ t. readFrom t words)) .out ≡ onStep x (s .place) (λ t. checkFrom t words)
+    go (S.Went f t) r = r t
+    go (S.Refused n) r = refl
+    go S.Ended r = refl
+
+-- the run at a word that was taken, refused, or ends the block
+pub read-at : (s : Scan) (word : ℕ) (words : List ℕ) {j : Judged} → judgeAt s word ≡ j → readFrom s (word ∷ words) ≡ onJudged j (s .place) (λ u. readFrom u words)
+unfolding readFrom
+read-at s word words e = ap (λ (x : Judged). onJudged x (s .place) (λ u. readFrom u words)) e
+
+-- the run at a word of which t was said
+pub check-at : (s : Scan) (word : ℕ) (words : List ℕ) {t : Step} → t ≡ stepAt s word → checkFrom s (word ∷ words) ≡ onStep t (s .place) (λ u. checkFrom u words)
+unfolding checkFrom
+check-at s word words e = ap (λ (x : Step). onStep x (s .place) (λ u. checkFrom u words)) (sym e)
+
+-- the input's end as a number: 0 says that the block is whole
+pub end-by : (s : Scan) → endOf s ≡ outOf (endNumber s) (s .place)
+unfolding endOf endNumber firstOf
+end-by s = go (atLimit s) (unfinished (s .phase))
+  where
+    go : (a b : Bool) → cond a (Broken 14 (s .place)) (cond b (Broken 11 (s .place)) (Whole (s .place))) ≡ outOf (cond a 14 (cond b 11 0)) (s .place)
+    go true b = refl
+    go false true = refl
+    go false false = refl
+
+-- "the block is: 81440101 00500405 91400009 98000100 00000000 B98002BC C18001B4 D180B0C8 89400009 F9400000"
+abbrev pub runA : List ℕ
+runA = 2168717569 ∷ 5243909 ∷ 2436890633 ∷ 2550137088 ∷ 0 ∷ 3112174268 ∷ 3246391732 ∷ 3514872008 ∷ 2302672905 ∷ 4181721088 ∷ []
+
+pub run-a : checkFrom startOf runA ≡ Whole 10
+unfolding checkFrom stepAt formAt refusalOf atLimit firstOf after onward endOf fieldAt blockHeaderOf blockHeaderFixed blockHeaderWithin parametersFixed trailerOf eventHeaderOf triggerTimeOf triggerTimeHighOf triggerTimeHighFixed timeFixed fillerOf
+run-a = refl

@@ -1,0 +1,32 @@
+-- `records::raw_item::pair_due` meets its contract.
+use borrow.Author.Needs.{needs}
+use Rattle.reader.specs.Reader.{mostPairs}
+use Rattle.records.proofs.raw_item.pair_due.Statement.{statement}
+use Rattle.records.proofs.raw_item.pair_due.Tie as tie
+
+returns-8 : tie.Need-returns-8
+unfolding mostPairs
+returns-8 c = cc
+
+pub pair-due-spec : {M : Type 1} → statement M
+pair-due-spec =
+    tie.close
+    (tie.spec
+    (λ c. search needs)
+    (λ c. search needs)
+    (λ c. search needs)
+    (λ c. search needs)
+    (λ c. search needs)
+    (λ c. search needs)
+    (λ c. search needs)
+    (λ c. search needs)
+    (λ c. search needs)
+    (λ c. search needs)
+    (λ c. search needs)
+    (λ c. search needs)
+    (λ c. search needs)
+    (λ c. search needs)
+    (λ c. search needs)
+    (λ c. search needs)
+    returns-8
+    (λ c. search needs))

@@ -1,0 +1,135 @@
+-- Document 01, "Reading", record by record: "Each item answers one of a set of named records carrying its fields." Assumes nothing.
+use Prim.Native.Nat.{ℕ, _+_}
+use mathlib.Core.Bool.{Bool, true, false, cond, _||_}
+use mathlib.Core.List.{List, [], _∷_}
+use lib.Dec.{eqb, leb}
+use lib.ListN.{length, take, drop}
+use Rattle.fields.specs.Tag.{isContinuation}
+use Rattle.frame.specs.declared.trigger_time.TriggerTime.{TriggerTime}
+use Rattle.items.specs.declared.Item.{Item}
+use Rattle.items.specs.declared.Item.the-variants as I
+use Rattle.reader.specs.Reader.{mostPairs, onward, stepAt, judgeAt, endNumber}
+use Rattle.reader.specs.declared.Phase.{Phase}
+use Rattle.reader.specs.declared.Phase.the-variants as P
+use Rattle.reader.specs.declared.Scan.{Scan}
+use Rattle.reader.specs.declared.Step.{Step}
+use Rattle.reader.specs.declared.Step.the-variants as S
+use Rattle.reader.specs.declared.Judged.{Judged}
+use Rattle.reader.specs.declared.Judged.the-variants as J
+use Rattle.records.specs.declared.answer.Pairs.{Pairs}
+use Rattle.records.specs.declared.answer.Pairing.{Pairing}
+use Rattle.records.specs.declared.answer.Pairing.the-variants as G
+use Rattle.records.specs.declared.answer.Record.{Record}
+use Rattle.records.specs.declared.answer.Record.the-variants as R
+use Rattle.records.specs.declared.answer.Next.{Next}
+use Rattle.records.specs.declared.answer.Next.the-variants as N
+
+-- ---- the pairs of a raw item
+
+-- a pair has to come: in type 4 all of its width, in type 6 at least one, then as long as the next word is a continuation
+abbrev pub pairDue : Phase → Bool → Bool
+pairDue P.Start more = false
+pairDue P.Head more = false
+pairDue P.Front more = false
+pairDue P.Opened more = false
+pairDue (P.Timed d) more = false
+pairDue P.Items more = false
+pairDue (P.Window n odd) more = true
+pairDue (P.Raw n) more = eqb n mostPairs || more
+pairDue (P.Tail n) more = false
+
+abbrev pub onPair : Step → Scan → ℕ → (Scan → Pairing) → Pairing
+onPair (S.Went f u) t n go = go u
+onPair (S.Refused r) t n go = G.Bad r (t .place)
+onPair S.Ended t n go = G.All n t
+
+-- the pairs from t on, n of them read; a count grows up to its largest value and stays there
+unfoldable pub pairsFrom : Scan → ℕ → List ℕ → Pairing
+pairsFrom t n [] = cond (pairDue (t .phase) false) (G.Bad (endNumber t) (t .place)) (G.All n t)
+pairsFrom t n (word ∷ words) = cond (pairDue (t .phase) (isContinuation word)) (onPair (stepAt t word) t n (λ u. pairsFrom u (onward n) words)) (G.All n t)
+
+-- "a raw item carries place and pair count"
+abbrev pub withPairs : (Pairs → Record) → ℕ → Pairing → Next
+withPairs make place (G.All n u) = N.Took (make (record { place = place; count = n })) u
+withPairs make place (G.Bad r at) = N.Refused r at
+
+-- "a second call gives that part of the caller's words (empty if it does not lie in them)"
+unfoldable pub partOf : List ℕ → Pairs → List ℕ
+partOf words p = cond (leb (p .place + p .count) (length words)) (take (p .count) (drop (p .place) words)) []
+
+-- ---- the trigger time: "optionally one or two time words"
+
+abbrev pub withHigh : TriggerTime → Scan → Item → Scan → Next
+withHigh r t (I.Block x) u = N.Took (R.Time27 r) t
+withHigh r t (I.Parameters x) u = N.Took (R.Time27 r) t
+withHigh r t (I.Trailer x) u = N.Took (R.Time27 r) t
+withHigh r t (I.Event x) u = N.Took (R.Time27 r) t
+withHigh r t (I.Clock x) u = N.Took (R.Time27 r) t
+withHigh r t (I.ClockHigh x) u = N.Took (R.Time48 r x) u
+withHigh r t (I.Window x) u = N.Took (R.Time27 r) t
+withHigh r t (I.Raw x) u = N.Took (R.Time27 r) t
+withHigh r t (I.Pair x) u = N.Took (R.Time27 r) t
+withHigh r t (I.Integral x) u = N.Took (R.Time27 r) t
+withHigh r t (I.Time x) u = N.Took (R.Time27 r) t
+withHigh r t (I.Pedestal x) u = N.Took (R.Time27 r) t
+withHigh r t (I.Empty x) u = N.Took (R.Time27 r) t
+withHigh r t (I.Filler x) u = N.Took (R.Time27 r) t
+
+abbrev pub onHigh : Judged → TriggerTime → Scan → Next
+onHigh (J.Took x u) r t = withHigh r t x u
+onHigh (J.Refused n) r t = N.Took (R.Time27 r) t
+onHigh J.Ended r t = N.Took (R.Time27 r) t
+
+-- a first time word with the second where that follows
+unfoldable pub timeFrom : TriggerTime → Scan → List ℕ → Next
+timeFrom r t [] = N.Took (R.Time27 r) t
+timeFrom r t (word ∷ words) = onHigh (judgeAt t word) r t
+
+-- ---- the fillers, together
+
+abbrev pub onFiller : Step → ℕ → ℕ → Scan → (Scan → Next) → Next
+onFiller (S.Went f u) slot n t go = go u
+onFiller (S.Refused r) slot n t go = N.Took (R.Fillers slot n) t
+onFiller S.Ended slot n t go = N.Took (R.Fillers slot n) t
+
+-- as many as follow, n of them read; behind the trailer no other word is taken
+unfoldable pub fillersFrom : ℕ → ℕ → Scan → List ℕ → Next
+fillersFrom slot n t [] = N.Took (R.Fillers slot n) t
+fillersFrom slot n t (word ∷ words) = onFiller (stepAt t word) slot n t (λ u. fillersFrom slot (onward n) u words)
+
+-- ---- the next record
+
+-- the record that starts with this item, t the scan behind that
+abbrev pub recordFrom : Item → Scan → List ℕ → Next
+recordFrom (I.Block r) t words = N.Took (R.Block r) t
+recordFrom (I.Parameters r) t words = N.Took (R.Parameters r) t
+recordFrom (I.Trailer r) t words = N.Took (R.Trailer r) t
+recordFrom (I.Event r) t words = N.Took (R.Event r) t
+recordFrom (I.Clock r) t words = timeFrom r t words
+recordFrom (I.ClockHigh r) t words = N.Took (R.TimeHigh r) t
+recordFrom (I.Window r) t words = withPairs (λ p. R.Window r p) (t .place) (pairsFrom t 0 words)
+recordFrom (I.Raw r) t words = withPairs (λ p. R.Raw r p) (t .place) (pairsFrom t 0 words)
+recordFrom (I.Pair r) t words = N.Took (R.Pair r) t
+recordFrom (I.Integral r) t words = N.Took (R.Integral r) t
+recordFrom (I.Time r) t words = N.Took (R.Time r) t
+recordFrom (I.Pedestal r) t words = N.Took (R.Pedestal r) t
+recordFrom (I.Empty r) t words = N.Took (R.Empty r) t
+recordFrom (I.Filler r) t words = fillersFrom (r .slot) 1 t words
+
+-- the input's end: the block's end, or the refusal there
+abbrev pub ended : ℕ → ℕ → Next
+ended refusal place = cond (eqb refusal 0) (N.End place) (N.Refused refusal place)
+
+abbrev pub onJudged : Judged → ℕ → List ℕ → Next
+onJudged (J.Took x t) place words = recordFrom x t words
+onJudged (J.Refused n) place words = N.Refused n place
+onJudged J.Ended place words = N.End place
+
+-- the words are those from s on
+unfoldable pub nextFrom : Scan → List ℕ → Next
+nextFrom s [] = ended (endNumber s) (s .place)
+nextFrom s (word ∷ words) = onJudged (judgeAt s word) (s .place) words
+
+-- the words are those from the block's first on
+unfoldable pub nextAt : List ℕ → Scan → Next
+nextAt words s = nextFrom s (drop (s .place) words)

@@ -1,0 +1,406 @@
+-- Reading on answers what the run over the same words says: the records one after the other, with nothing left out. Assumes nothing.
+use Prim.Native.Nat.{ℕ, suc, _+_, _-_, _^_, _≤_, min}
+use mathlib.Core.Path.{_≡_, refl, sym, ap, _∙_}
+use mathlib.Core.Bool.{Bool, true, false, cond, false≢true, _||_}
+use mathlib.Core.List.{List, [], _∷_, map}
+use native.Mathlib.Omega.{arith}
+use borrow.Author.Tests.{eqb-true, not-false}
+use lib.Dec.{eqb}
+use lib.ListN.{length, drop, length-map}
+use Rattle.ground.specs.Tests.{firstOf}
+use Rattle.fields.specs.Word.{read}
+use Rattle.fields.specs.Tag.{isContinuation}
+use Rattle.frame.specs.Words.{blockHeaderOf, parametersOf, trailerOf, eventHeaderOf, triggerTimeOf, triggerTimeHighOf, emptyOf, fillerOf}
+use Rattle.frame.specs.declared.trigger_time.TriggerTime.{TriggerTime}
+use Rattle.raw.specs.Words.{windowOf, pulseRawOf, pairOf}
+use Rattle.raw.specs.declared.pair.SamplePair.{SamplePair}
+use Rattle.measures.specs.Words.{integralOf, timeOf, pedestalOf}
+use Rattle.items.specs.Items.{itemFrom}
+use Rattle.items.specs.declared.Form.{Form}
+use Rattle.items.specs.declared.Form.the-variants as F
+use Rattle.items.specs.declared.Item.{Item}
+use Rattle.items.specs.declared.Item.the-variants as I
+use Rattle.reader.specs.Reader.{mostPairs, moreIn, allowedIn, otherIn, formIn, formAt, isNo, isEnd, unfinished, filled, onward, after, stepAt, withItem, judgeAt, Whole, Broken, endOf, endNumber, just, then, Reading, readFrom, atLimit}
+use Rattle.reader.specs.ReaderLaws.{Accepted, accepted, filler-tail}
+use Rattle.reader.specs.RunLaws.{before, read-at, end-by}
+use Rattle.reader.specs.declared.Phase.{Phase}
+use Rattle.reader.specs.declared.Phase.the-variants as P
+use Rattle.reader.specs.declared.Scan.{Scan}
+use Rattle.reader.specs.declared.Step.{Step}
+use Rattle.reader.specs.declared.Step.the-variants as S
+use Rattle.reader.specs.declared.Judged.{Judged}
+use Rattle.reader.specs.declared.Judged.the-variants as J
+use Rattle.records.specs.declared.answer.Pairs.{Pairs}
+use Rattle.records.specs.declared.answer.Pairing.{Pairing}
+use Rattle.records.specs.declared.answer.Pairing.the-variants as G
+use Rattle.records.specs.declared.answer.Record.{Record}
+use Rattle.records.specs.declared.answer.Record.the-variants as R
+use Rattle.records.specs.declared.answer.Next.{Next}
+use Rattle.records.specs.declared.answer.Next.the-variants as N
+use Rattle.records.specs.Next.{pairDue, onPair, pairsFrom, withPairs, onHigh, withHigh, timeFrom, onFiller, fillersFrom, recordFrom, onJudged, nextFrom}
+
+-- the judgement of a word whose step is known
+judge-is : (s : Scan) (word : ℕ) {y : Step} → stepAt s word ≡ y → judgeAt s word ≡ withItem word y
+unfolding judgeAt
+judge-is s word e = ap (withItem word) e
+
+-- ---- where a pair is due, only a pair is taken
+
+pair-form : (p : Phase) (bit type : ℕ) → pairDue p (eqb bit 0) ≡ true → let f = cond (eqb bit 0) (moreIn p) (formIn (otherIn p) (allowedIn p) type) in isNo f ≡ false → f ≡ F.Pair
+unfolding mostPairs
+pair-form p bit type due ok = go (eqb bit 0) p due ok
+  where
+    raw-more : (b : Bool) → isNo (cond b F.No F.Pair) ≡ false → cond b F.No F.Pair ≡ F.Pair
+    raw-more true ok = absurd (false≢true (sym ok))
+    raw-more false ok = refl
+
+    raw-type : (n : ℕ) → n ≡ 250 → isNo (formIn F.No (allowedIn (P.Raw n)) type) ≡ false → formIn F.No (allowedIn (P.Raw n)) type ≡ F.Pair
+    raw-type n e ok = absurd (false≢true (sym (rw e at ok)))
+
+    whole : (b : Bool) → b || false ≡ true → b ≡ true
+    whole true h = refl
+    whole false h = h
+
+    go : (b : Bool) (p : Phase) → pairDue p b ≡ true → isNo (cond b (moreIn p) (formIn (otherIn p) (allowedIn p) type)) ≡ false → cond b (moreIn p) (formIn (otherIn p) (allowedIn p) type) ≡ F.Pair
+    go b P.Start due ok = absurd (false≢true due)
+    go b P.Head due ok = absurd (false≢true due)
+    go b P.Front due ok = absurd (false≢true due)
+    go b P.Opened due ok = absurd (false≢true due)
+    go b (P.Timed d) due ok = absurd (false≢true due)
+    go b P.Items due ok = absurd (false≢true due)
+    go true (P.Window n odd) due ok = refl
+    go false (P.Window n odd) due ok = absurd (false≢true (sym ok))
+    go true (P.Raw n) due ok = raw-more (eqb n 0) ok
+    go false (P.Raw n) due ok = raw-type n (eqb-true n 250 (whole (eqb n 250) due)) ok
+    go b (P.Tail n) due ok = absurd (false≢true due)
+
+pair-taken : (t : Scan) (word : ℕ) {f : Form} {u : Scan} → pairDue (t .phase) (isContinuation word) ≡ true → stepAt t word ≡ S.Went f u → judgeAt t word ≡ J.Took (I.Pair (pairOf word)) u
+unfolding formAt isContinuation
+pair-taken t word {f} {u} due e =
+    let a = accepted t word e in
+    let ok : isNo f ≡ false = a .off .1 .0 in
+    let is : f ≡ F.Pair = sym (a .form) ∙ pair-form (t .phase) (read 31 31 word) (read 30 27 word) due (ap isNo (a .form) ∙ ok) in
+    judge-is t word e ∙ ap (λ (g : Form). J.Took (itemFrom g word) u) is
+
+-- ---- behind the trailer, only a filler of the block's slot is taken
+
+abbrev fillerAt : ℕ → Item
+fillerAt slot = I.Filler (record { slot = slot })
+
+filler-form : (p : Phase) (bit type : ℕ) → unfinished p ≡ false → let f = cond (eqb bit 0) (moreIn p) (formIn (otherIn p) (allowedIn p) type) in isEnd f ≡ false → f ≡ F.Filler
+filler-form p bit type end ok = go (eqb bit 0) p end ok
+  where
+    last : (b : Bool) → isEnd (cond b F.Filler F.End) ≡ false → cond b F.Filler F.End ≡ F.Filler
+    last true ok = refl
+    last false ok = absurd (false≢true (sym ok))
+
+    listed : (b : Bool) → isEnd (formIn F.End (cond b [] (F.Filler ∷ [])) type) ≡ false → formIn F.End (cond b [] (F.Filler ∷ [])) type ≡ F.Filler
+    listed true ok = absurd (false≢true (sym ok))
+    listed false ok = last (eqb type 15) ok
+
+    go : (b : Bool) (p : Phase) → unfinished p ≡ false → isEnd (cond b (moreIn p) (formIn (otherIn p) (allowedIn p) type)) ≡ false → cond b (moreIn p) (formIn (otherIn p) (allowedIn p) type) ≡ F.Filler
+    go b P.Start end ok = absurd (false≢true (sym end))
+    go b P.Head end ok = absurd (false≢true (sym end))
+    go b P.Front end ok = absurd (false≢true (sym end))
+    go b P.Opened end ok = absurd (false≢true (sym end))
+    go b (P.Timed d) end ok = absurd (false≢true (sym end))
+    go b P.Items end ok = absurd (false≢true (sym end))
+    go b (P.Window n odd) end ok = absurd (false≢true (sym end))
+    go b (P.Raw n) end ok = absurd (false≢true (sym end))
+    go true (P.Tail n) end ok = absurd (false≢true (sym ok))
+    go false (P.Tail n) end ok = listed (eqb n 0) ok
+
+filled-end : (p : Phase) → unfinished p ≡ false → unfinished (filled p) ≡ false
+filled-end P.Start end = end
+filled-end P.Head end = end
+filled-end P.Front end = end
+filled-end P.Opened end = end
+filled-end (P.Timed d) end = end
+filled-end P.Items end = end
+filled-end (P.Window n odd) end = end
+filled-end (P.Raw n) end = end
+filled-end (P.Tail n) end = refl
+
+record Filling (t : Scan) (word : ℕ) (u : Scan) : Type 0 where
+  own : (fillerOf word) .slot ≡ t .slot
+  tail : unfinished (u .phase) ≡ false
+  slot : u .slot ≡ t .slot
+
+-- a filler that was taken
+filling : (t : Scan) (word : ℕ) {u : Scan} → unfinished (t .phase) ≡ false → Accepted t word F.Filler u → Filling t word u
+unfolding fillerOf after
+filling t word {u} end a =
+    let same : read 26 22 word ≡ t .slot = eqb-true _ _ (not-false _ (a .off .1 .1 .0)) in
+    record {
+      own = same;
+      tail = ap (λ (x : Scan). unfinished (x .phase)) (a .scan) ∙ filled-end (t .phase) end;
+      slot = ap (λ (x : Scan). x .slot) (a .scan);
+    }
+
+filler-taken : (t : Scan) (word : ℕ) {f : Form} {u : Scan} → unfinished (t .phase) ≡ false → stepAt t word ≡ S.Went f u → f ≡ F.Filler
+unfolding formAt
+filler-taken t word {f} end e =
+    let a = accepted t word e in
+    sym (a .form) ∙ filler-form (t .phase) (read 31 31 word) (read 30 27 word) end (ap isEnd (a .form) ∙ a .here)
+
+-- ---- the pairs and the fillers of a run
+
+abbrev mostCount : ℕ
+mostCount = 2 ^ 32 - 1
+
+onward-le : (n : ℕ) → onward n ≤ mostCount
+unfolding onward
+onward-le n = omega arith
+
+onward-add : (n k m : ℕ) → m ≡ min (onward n + k) mostCount → m ≡ min (n + suc k) mostCount
+unfolding onward
+onward-add n k m e = omega arith
+
+-- pairs in a row, then the run from u
+record Paired (t : Scan) (words : List ℕ) (n m : ℕ) (u : Scan) : Type 0 where
+  pairs : List SamplePair
+  many : m ≡ min (n + length pairs) mostCount
+  run : readFrom t words ≡ before (map (λ x. I.Pair x) pairs) (readFrom u (drop (length pairs) words))
+
+abbrev SaysPairs : Scan → ℕ → List ℕ → Pairing → Type 0
+SaysPairs t n words (G.All m u) = Paired t words n m u
+SaysPairs t n words (G.Bad r at) = (readFrom t words) .out ≡ Broken r at
+
+no-pair : (t : Scan) (n : ℕ) (words : List ℕ) → n ≤ mostCount → Paired t words n n t
+no-pair t n words h = record { pairs = []; many = omega arith; run = refl }
+
+due-unfinished : (p : Phase) (b : Bool) → pairDue p b ≡ true → unfinished p ≡ true
+due-unfinished P.Start b due = refl
+due-unfinished P.Head b due = refl
+due-unfinished P.Front b due = refl
+due-unfinished P.Opened b due = refl
+due-unfinished (P.Timed d) b due = refl
+due-unfinished P.Items b due = refl
+due-unfinished (P.Window n odd) b due = refl
+due-unfinished (P.Raw n) b due = refl
+due-unfinished (P.Tail n) b due = due
+
+end-broken : (s : Scan) → unfinished (s .phase) ≡ true → endOf s ≡ Broken (endNumber s) (s .place)
+unfolding endOf endNumber firstOf
+end-broken s h = rw h (go (atLimit s))
+  where
+    go : (a : Bool) → cond a (Broken 14 (s .place)) (Broken 11 (s .place)) ≡ Broken (cond a 14 11) (s .place)
+    go true = refl
+    go false = refl
+
+pairs-say : (t : Scan) (n : ℕ) (words : List ℕ) → n ≤ mostCount → SaysPairs t n words (pairsFrom t n words)
+unfolding pairsFrom readFrom
+pairs-say t n [] h = go (pairDue (t .phase) false) refl
+  where
+    go : (b : Bool) → pairDue (t .phase) false ≡ b → SaysPairs t n [] (cond b (G.Bad (endNumber t) (t .place)) (G.All n t))
+    go true due = end-broken t (due-unfinished (t .phase) false due)
+    go false due = no-pair t n [] h
+pairs-say t n (word ∷ words) h = by-due (pairDue (t .phase) (isContinuation word)) refl (λ u. pairs-say u (onward n) words (onward-le n))
+  where
+    by-step : (y : Step) → stepAt t word ≡ y → pairDue (t .phase) (isContinuation word) ≡ true → ((u : Scan) → SaysPairs u (onward n) words (pairsFrom u (onward n) words)) → SaysPairs t n (word ∷ words) (onPair y t n (λ u. pairsFrom u (onward n) words))
+    by-step (S.Went f u) e due r = more (pairsFrom u (onward n) words) (r u)
+      where
+        run : readFrom t (word ∷ words) ≡ then (I.Pair (pairOf word)) (readFrom u words)
+        run = read-at t word words (pair-taken t word due e)
+
+        more : (q : Pairing) → SaysPairs u (onward n) words q → SaysPairs t n (word ∷ words) q
+        more (G.All m v) a =
+            record {
+              pairs = pairOf word ∷ a .pairs;
+              many = onward-add n (length (a .pairs)) m (a .many);
+              run = run ∙ ap (then (I.Pair (pairOf word))) (a .run);
+            }
+        more (G.Bad k at) a = ap (λ (x : Reading). x .out) run ∙ a
+    by-step (S.Refused k) e due r = ap (λ (x : Reading). x .out) (read-at t word words (judge-is t word e))
+    by-step S.Ended e due r = no-pair t n (word ∷ words) h
+
+    by-due : (b : Bool) → pairDue (t .phase) (isContinuation word) ≡ b → ((u : Scan) → SaysPairs u (onward n) words (pairsFrom u (onward n) words)) → SaysPairs t n (word ∷ words) (cond b (onPair (stepAt t word) t n (λ u. pairsFrom u (onward n) words)) (G.All n t))
+    by-due true due r = by-step (stepAt t word) refl due r
+    by-due false due r = no-pair t n (word ∷ words) h
+
+-- each of the items is x
+abbrev pub AllAre : Item → List Item → Type 0
+AllAre x [] = Unit {0}
+AllAre x (y ∷ ys) = (y ≡ x) × AllAre x ys
+
+-- fillers in a row, then the run from the scan behind them
+record Filled (slot n : ℕ) (t : Scan) (words : List ℕ) (x : Next) : Type 0 where
+  count : ℕ
+  scan : Scan
+  is : x ≡ N.Took (R.Fillers slot count) scan
+  items : List Item
+  all : AllAre (fillerAt slot) items
+  many : count ≡ min (n + length items) mostCount
+  run : readFrom t words ≡ before items (readFrom scan (drop (length items) words))
+
+no-filler : (slot n : ℕ) (t : Scan) (words : List ℕ) → n ≤ mostCount → Filled slot n t words (N.Took (R.Fillers slot n) t)
+no-filler slot n t words h = record { count = n; scan = t; is = refl; items = []; all = tt; many = omega arith; run = refl }
+
+fillers-say : (slot n : ℕ) (t : Scan) (words : List ℕ) → n ≤ mostCount → unfinished (t .phase) ≡ false → t .slot ≡ slot → Filled slot n t words (fillersFrom slot n t words)
+unfolding fillersFrom fillerOf
+fillers-say slot n t [] h end same = no-filler slot n t [] h
+fillers-say slot n t (word ∷ words) h end same = go (stepAt t word) refl (λ u. fillers-say slot (onward n) u words (onward-le n))
+  where
+    go : (y : Step) → stepAt t word ≡ y → ((u : Scan) → unfinished (u .phase) ≡ false → u .slot ≡ slot → Filled slot (onward n) u words (fillersFrom slot (onward n) u words)) → Filled slot n t (word ∷ words) (onFiller y slot n t (λ u. fillersFrom slot (onward n) u words))
+    go (S.Went f u) e r =
+        let is = filler-taken t word end e in
+        let went : stepAt t word ≡ S.Went F.Filler u = e ∙ ap (λ (g : Form). S.Went g u) is in
+        let a = filling t word end (accepted t word went) in
+        let b = r u (a .tail) (a .slot ∙ same) in
+        record {
+          count = b .count;
+          scan = b .scan;
+          is = b .is;
+          items = itemFrom F.Filler word ∷ b .items;
+          all = (ap (λ (k : ℕ). fillerAt k) (a .own ∙ same), b .all);
+          many = onward-add n (length (b .items)) (b .count) (b .many);
+          run = read-at t word words (judge-is t word went) ∙ ap (then (itemFrom F.Filler word)) (b .run);
+        }
+    go (S.Refused k) e r = no-filler slot n t (word ∷ words) h
+    go S.Ended e r = no-filler slot n t (word ∷ words) h
+
+-- ---- what reading on answers
+
+-- a raw item: behind its head stand its pairs, from the place after the head on
+pub record PairsMade (head : Item) (place : ℕ) (p : Pairs) (items : List Item) : Type 0 where
+  pub at : p .place ≡ place
+  pub pairs : List SamplePair
+  pub all : items ≡ head ∷ map (λ x. I.Pair x) pairs
+  pub many : p .count ≡ min (length pairs) mostCount
+
+pub record FillersMade (slot n : ℕ) (items : List Item) : Type 0 where
+  pub all : AllAre (fillerAt slot) items
+  pub many : n ≡ min (length items) mostCount
+
+-- the items that a record is made of; place is that of the word after its first
+abbrev pub Made : ℕ → Record → List Item → Type 0
+Made place (R.Block r) items = items ≡ I.Block r ∷ []
+Made place (R.Parameters r) items = items ≡ I.Parameters r ∷ []
+Made place (R.Event r) items = items ≡ I.Event r ∷ []
+Made place (R.Time27 r) items = items ≡ I.Clock r ∷ []
+Made place (R.Time48 r high) items = items ≡ I.Clock r ∷ I.ClockHigh high ∷ []
+Made place (R.TimeHigh r) items = items ≡ I.ClockHigh r ∷ []
+Made place (R.Window r p) items = PairsMade (I.Window r) place p items
+Made place (R.Raw r p) items = PairsMade (I.Raw r) place p items
+Made place (R.Pair r) items = items ≡ I.Pair r ∷ []
+Made place (R.Integral r) items = items ≡ I.Integral r ∷ []
+Made place (R.Time r) items = items ≡ I.Time r ∷ []
+Made place (R.Pedestal r) items = items ≡ I.Pedestal r ∷ []
+Made place (R.Trailer r) items = items ≡ I.Trailer r ∷ []
+Made place (R.Fillers slot n) items = FillersMade slot n items
+Made place (R.Empty r) items = items ≡ I.Empty r ∷ []
+
+-- a record: its items stand first in the run, and the rest is the run from the scan behind it
+pub record Taken (s : Scan) (words : List ℕ) (x : Record) (u : Scan) : Type 0 where
+  pub items : List Item
+  pub made : Made (onward (s .place)) x items
+  pub run : readFrom s words ≡ before items (readFrom u (drop (length items) words))
+
+abbrev pub SaysNext : Scan → List ℕ → Next → Type 0
+SaysNext s words (N.Took x u) = Taken s words x u
+SaysNext s words (N.End n) = readFrom s words ≡ just (Whole n)
+SaysNext s words (N.Refused r place) = (readFrom s words) .out ≡ Broken r place
+
+place-after : (s t : Scan) (x : Item) → t ≡ after s x → t .place ≡ onward (s .place)
+unfolding after
+place-after s t x e = ap (λ (y : Scan). y .place) e
+
+-- a record of one word
+one : (s t : Scan) (word : ℕ) (words : List ℕ) (x : Item) (y : Record) → Made (onward (s .place)) y (x ∷ []) → judgeAt s word ≡ J.Took x t → Taken s (word ∷ words) y t
+one s t word words x y m e = record { items = x ∷ []; made = m; run = read-at s word words e }
+
+time-says : (s t : Scan) (word : ℕ) (words : List ℕ) (r : TriggerTime) → judgeAt s word ≡ J.Took (I.Clock r) t → SaysNext s (word ∷ words) (timeFrom r t words)
+unfolding timeFrom
+time-says s t word [] r e = one s t word [] (I.Clock r) (R.Time27 r) refl e
+time-says s t word (next ∷ words) r e = by-judged (judgeAt t next) refl
+  where
+    alone : Taken s (word ∷ next ∷ words) (R.Time27 r) t
+    alone = one s t word (next ∷ words) (I.Clock r) (R.Time27 r) refl e
+
+    by-judged : (j : Judged) → judgeAt t next ≡ j → SaysNext s (word ∷ next ∷ words) (onHigh j r t)
+    by-judged (J.Took x u) f = by-item x f
+      where
+        by-item : (x : Item) → judgeAt t next ≡ J.Took x u → SaysNext s (word ∷ next ∷ words) (withHigh r t x u)
+        by-item (I.Block x) f = alone
+        by-item (I.Parameters x) f = alone
+        by-item (I.Trailer x) f = alone
+        by-item (I.Event x) f = alone
+        by-item (I.Clock x) f = alone
+        by-item (I.ClockHigh high) f =
+            record {
+              items = I.Clock r ∷ I.ClockHigh high ∷ [];
+              made = refl;
+              run = read-at s word (next ∷ words) e ∙ ap (then (I.Clock r)) (read-at t next words f);
+            }
+        by-item (I.Window x) f = alone
+        by-item (I.Raw x) f = alone
+        by-item (I.Pair x) f = alone
+        by-item (I.Integral x) f = alone
+        by-item (I.Time x) f = alone
+        by-item (I.Pedestal x) f = alone
+        by-item (I.Empty x) f = alone
+        by-item (I.Filler x) f = alone
+    by-judged (J.Refused n) f = alone
+    by-judged J.Ended f = alone
+
+-- a raw item, by what its pairs say
+raw-says : (s t : Scan) (word : ℕ) (words : List ℕ) (head : Item) (make : Pairs → Record) → ((p : Pairs) (items : List Item) → PairsMade head (onward (s .place)) p items → Made (onward (s .place)) (make p) items) → t .place ≡ onward (s .place) → judgeAt s word ≡ J.Took head t → SaysNext s (word ∷ words) (withPairs make (t .place) (pairsFrom t 0 words))
+raw-says s t word words head make m at e = go (pairsFrom t 0 words) (pairs-say t 0 words (omega arith))
+  where
+    run : readFrom s (word ∷ words) ≡ then head (readFrom t words)
+    run = read-at s word words e
+
+    go : (q : Pairing) → SaysPairs t 0 words q → SaysNext s (word ∷ words) (withPairs make (t .place) q)
+    go (G.All n u) a =
+        record {
+          items = head ∷ map (λ x. I.Pair x) (a .pairs);
+          made = m _ _ (record { at = at; pairs = a .pairs; all = refl; many = omega (arith, a .many) });
+          run = run ∙ ap (then head) (a .run ∙ rw (length-map (a .pairs) (λ x. I.Pair x)));
+        }
+    go (G.Bad r place) a = ap (λ (x : Reading). x .out) run ∙ a
+
+fillers-make : (s t : Scan) (word : ℕ) (words : List ℕ) → unfinished (s .phase) ≡ false → Accepted s word F.Filler t → judgeAt s word ≡ J.Took (itemFrom F.Filler word) t → SaysNext s (word ∷ words) (fillersFrom ((fillerOf word) .slot) 1 t words)
+unfolding fillerOf
+fillers-make s t word words end a e =
+    let b = filling s word end a in
+    let same : t .slot ≡ (fillerOf word) .slot = b .slot ∙ sym (b .own) in
+    let c = fillers-say ((fillerOf word) .slot) 1 t words (omega arith) (b .tail) same in
+    rw (c .is)
+    (record {
+      items = itemFrom F.Filler word ∷ c .items;
+      made = record { all = (refl, c .all); many = omega (arith, c .many) };
+      run = read-at s word words e ∙ ap (then (itemFrom F.Filler word)) (c .run);
+    })
+
+-- for every scan and all words
+pub next-says : (s : Scan) (words : List ℕ) → SaysNext s words (nextFrom s words)
+unfolding nextFrom readFrom judgeAt
+next-says s [] = go (eqb (endNumber s) 0) refl
+  where
+    go : (b : Bool) → eqb (endNumber s) 0 ≡ b → SaysNext s [] (cond b (N.End (s .place)) (N.Refused (endNumber s) (s .place)))
+    go true h = ap just (end-by s ∙ rw h)
+    go false h = end-by s ∙ rw h
+next-says s (word ∷ words) = by-step (stepAt s word) refl
+  where
+    by-form : (f : Form) (t : Scan) → stepAt s word ≡ S.Went f t → Accepted s word f t → t .place ≡ onward (s .place) → SaysNext s (word ∷ words) (recordFrom (itemFrom f word) t words)
+    by-form F.Block t e a at = one s t word words (I.Block (blockHeaderOf word)) (R.Block (blockHeaderOf word)) refl (judge-is s word e)
+    by-form F.Parameters t e a at = one s t word words (I.Parameters (parametersOf word)) (R.Parameters (parametersOf word)) refl (judge-is s word e)
+    by-form F.Trailer t e a at = one s t word words (I.Trailer (trailerOf word)) (R.Trailer (trailerOf word)) refl (judge-is s word e)
+    by-form F.Event t e a at = one s t word words (I.Event (eventHeaderOf word)) (R.Event (eventHeaderOf word)) refl (judge-is s word e)
+    by-form F.Clock t e a at = time-says s t word words (triggerTimeOf word) (judge-is s word e)
+    by-form F.ClockHigh t e a at = one s t word words (I.ClockHigh (triggerTimeHighOf word)) (R.TimeHigh (triggerTimeHighOf word)) refl (judge-is s word e)
+    by-form F.Window t e a at = raw-says s t word words (I.Window (windowOf word)) (λ p. R.Window (windowOf word) p) (λ p items m. m) at (judge-is s word e)
+    by-form F.Raw t e a at = raw-says s t word words (I.Raw (pulseRawOf word)) (λ p. R.Raw (pulseRawOf word) p) (λ p items m. m) at (judge-is s word e)
+    by-form F.Pair t e a at = one s t word words (I.Pair (pairOf word)) (R.Pair (pairOf word)) refl (judge-is s word e)
+    by-form F.Integral t e a at = one s t word words (I.Integral (integralOf word)) (R.Integral (integralOf word)) refl (judge-is s word e)
+    by-form F.Time t e a at = one s t word words (I.Time (timeOf word)) (R.Time (timeOf word)) refl (judge-is s word e)
+    by-form F.Pedestal t e a at = one s t word words (I.Pedestal (pedestalOf word)) (R.Pedestal (pedestalOf word)) refl (judge-is s word e)
+    by-form F.Empty t e a at = one s t word words (I.Empty (emptyOf word)) (R.Empty (emptyOf word)) refl (judge-is s word e)
+    by-form F.Filler t e a at = fillers-make s t word words (filler-tail s word (a .form)) a (judge-is s word e)
+    by-form F.No t e a at = absurd (false≢true (sym (a .off .1 .0)))
+    by-form F.End t e a at = absurd (false≢true (sym (a .here)))
+
+    by-step : (y : Step) → stepAt s word ≡ y → SaysNext s (word ∷ words) (onJudged (withItem word y) (s .place) words)
+    by-step (S.Went f t) e = let a = accepted s word e in by-form f t e a (place-after s t (itemFrom f word) (a .scan))
+    by-step (S.Refused n) e = ap (λ (x : Reading). x .out) (read-at s word words (judge-is s word e))
+    by-step S.Ended e = read-at s word words (judge-is s word e)

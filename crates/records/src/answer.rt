@@ -1,0 +1,55 @@
+// What reading on in a block answers: the named records, a raw item with the place of its pairs.
+use frame::block_header::BlockHeader;
+use frame::empty::ModuleEmpty;
+use frame::event_header::EventHeader;
+use frame::parameters::Parameters;
+use frame::trailer::BlockTrailer;
+use frame::trigger_time::TriggerTime;
+use frame::trigger_time_high::TriggerTimeHigh;
+use measures::integral::PulseIntegral;
+use measures::pedestal::PulsePedestal;
+use measures::time::PulseTime;
+use raw::pair::SamplePair;
+use raw::pulse_raw::PulseRaw;
+use raw::window::WindowRaw;
+use reader::Scan;
+
+// Where a raw item's pairs stand: the place of the first, and how many.
+pub struct Pairs {
+    pub place: u32,
+    pub count: u32,
+}
+
+pub enum Record {
+    Block(BlockHeader),
+    Parameters(Parameters),
+    Event(EventHeader),
+    // The trigger time of one word, and of two.
+    Time27(TriggerTime),
+    Time48(TriggerTime, TriggerTimeHigh),
+    // A second time word, or a pair, to a scan that stands before it.
+    TimeHigh(TriggerTimeHigh),
+    Window(WindowRaw, Pairs),
+    Raw(PulseRaw, Pairs),
+    Pair(SamplePair),
+    Integral(PulseIntegral),
+    Time(PulseTime),
+    Pedestal(PulsePedestal),
+    Trailer(BlockTrailer),
+    // Fillers that follow each other: their slot, and how many.
+    Fillers(u32, u32),
+    Empty(ModuleEmpty),
+}
+
+// A record and the scan behind it; the block's end and its words; or a refusal and its place.
+pub enum Next {
+    Took(Record, Scan),
+    End(u32),
+    Refused(u32, u32),
+}
+
+// The pairs of a raw item: all of them and the scan behind, or a refusal and its place.
+pub enum Pairing {
+    All(u32, Scan),
+    Bad(u32, u32),
+}
