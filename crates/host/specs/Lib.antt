@@ -1,2 +1,6 @@
 pub mod Check
 pub mod CheckLaws
+pub mod Face
+pub mod FaceLaws
+pub mod Inner
+pub mod NumbersLaws
