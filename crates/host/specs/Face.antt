@@ -3,10 +3,14 @@ use Prim.Native.Nat.{ℕ, zero, suc, _+_, _*_, _/_, _%_, _^_}
 use mathlib.Core.Path.{_≡_}
 use mathlib.Core.Bool.{Bool, true, false, cond, _&&_}
 use mathlib.Core.List.{List, [], _∷_, _++_}
-use lib.Dec.{eqb, leb}
+use lib.Dec.{eqb, leb, ltb}
 use lib.ListN.{length, getD, take, drop, set, replicate}
 use Rattle.ground.specs.Splice.{splice}
 use Rattle.settings.specs.declared.Settings.{Settings}
+use Rattle.finder.specs.declared.Pulse.{Pulse}
+use Rattle.finder.specs.declared.Pulses.{Pulses}
+use Rattle.finder.specs.Find.{noPulse, packed, ruleNumber}
+use Rattle.finder.specs.Call.{findNumber, foundPulses}
 use Rattle.writer.specs.declared.Phase.{Phase}
 use Rattle.writer.specs.declared.Phase.the-variants.{Idle, Block, Event}
 use Rattle.writer.specs.declared.State.{State}
@@ -180,3 +184,23 @@ pub record FinishFace (n words : List ℕ) (r : ℕ) (n′ words′ : List ℕ) 
   pub numbers : n′ ≡ ifAccepted (finishOn n (length words)) (numbersOf (idle (stateFrom n .settings))) n
   pub buffer : words′
       ≡ ifAccepted (finishOn n (length words)) (splice words (stateFrom n .words) (wordsOf (endItems (stateFrom n .settings) (stateFrom n .words)))) words
+
+-- ---- the finder
+
+-- TC, first, last, sum before the cap, coarse, fine, VMIN, VPEAK, and the rule that gave the time
+unfoldable pub pulseNumbers : Pulse → List ℕ
+pulseNumbers p =
+    p .tc ∷ p .first ∷ p .last ∷ p .sum ∷ p .time .coarse ∷ p .time .fine ∷ p .time .vmin ∷ p .time .vpeak ∷ ruleNumber (p .time .rule) ∷ []
+
+-- "zeros past the count"
+unfoldable pub rowOf : Pulses → ℕ → List ℕ
+rowOf found i = cond (ltb i (found .count)) (pulseNumbers (getD (found .pulses) i noPulse)) (replicate 9 0)
+
+-- 28 numbers: "the count, then for each of three pulses"
+unfoldable pub foundNumbers : Pulses → List ℕ
+foundNumbers found = found .count ∷ (rowOf found 0 ++ (rowOf found 1 ++ rowOf found 2))
+
+-- "fewer than 28 lent is 9, after the others"
+pub record FindFace (settings : List ℕ) (c : ℕ) (w out : List ℕ) (r : ℕ) (out′ : List ℕ) : Type 0 where
+  pub number : r ≡ orElse (onSettings settings (findNumber (settingsFrom settings) c w)) (cond (ltb (length out) 28) 9 0)
+  pub numbers : out′ ≡ ifAccepted r (splice out 0 (foundNumbers (packed (foundPulses (settingsFrom settings) c w)))) out

@@ -2,5 +2,6 @@ pub mod Check
 pub mod CheckLaws
 pub mod Face
 pub mod FaceLaws
+pub mod FoundLaws
 pub mod Inner
 pub mod NumbersLaws

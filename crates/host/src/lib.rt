@@ -2,7 +2,9 @@
 ghost use mathlib.Core.Path.{_≡_};
 ghost use Prim.Native.Nat.{_+_, _*_, _^_};
 ghost use Rattle.host.specs.Check.{checkNumber};
+
 mod calls;
+mod found;
 mod numbers;
 
 use reader::Scan;

@@ -14,6 +14,7 @@ use writer::State;
 
 // The greatest numbers of a 32-bit and of a 64-bit field.
 const MOST_32: u64 = 4294967295;
+
 const MOST_64: u64 = 18446744073709551615;
 
 // Mode, NW, PL, NSB, NSA, limit, slot, parameter word, time words, filler multiple, then sixteen thresholds.
@@ -21,9 +22,32 @@ fn settings_limits() -> [u64; 26]
     ensures { λ r. ⌜ r ≡ settingsLimits ⌝ }
 {
     [
-        MOST_32, MOST_64, MOST_32, MOST_64, MOST_64, MOST_64, MOST_32, 1, MOST_32, MOST_32,
-        MOST_32, MOST_32, MOST_32, MOST_32, MOST_32, MOST_32, MOST_32, MOST_32,
-        MOST_32, MOST_32, MOST_32, MOST_32, MOST_32, MOST_32, MOST_32, MOST_32,
+        MOST_32,
+        MOST_64,
+        MOST_32,
+        MOST_64,
+        MOST_64,
+        MOST_64,
+        MOST_32,
+        1,
+        MOST_32,
+        MOST_32,
+        MOST_32,
+        MOST_32,
+        MOST_32,
+        MOST_32,
+        MOST_32,
+        MOST_32,
+        MOST_32,
+        MOST_32,
+        MOST_32,
+        MOST_32,
+        MOST_32,
+        MOST_32,
+        MOST_32,
+        MOST_32,
+        MOST_32,
+        MOST_32,
     ]
 }
 
@@ -31,7 +55,16 @@ fn settings_limits() -> [u64; 26]
 fn head_limits() -> [u64; 8]
     ensures { λ r. ⌜ r ≡ headLimits ⌝ }
 {
-    [2, MOST_32, MOST_32, MOST_32, MOST_64, 65535, MOST_32, MOST_64]
+    [
+        2,
+        MOST_32,
+        MOST_32,
+        MOST_32,
+        MOST_64,
+        65535,
+        MOST_32,
+        MOST_64,
+    ]
 }
 
 // As many numbers as limits, and each at most its limit.

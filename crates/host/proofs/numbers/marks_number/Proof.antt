@@ -33,10 +33,11 @@ add-number c =
 loop-again : tie.Need-loop-again Inv-loop μ-loop
 loop-again c =
     let l = c .before .before .before .loop in
-    let marks = c .before .before .before .before .before .args .marks .now in
-    (omega arith,
+    let marks = c .before .before .before .before .before .args .marks .now in (
+      omega arith,
       ap (λ (n : ℕ). n + 2 * l .number) (c .bit-of .ensures) ∙ ap (λ (n : ℕ). bitOf (getD marks (l .channel - 1) false) + 2 * n) (l .inv .1)
-      ∙ sym (marks-turn marks (l .channel - 1) (l .channel) (omega arith) (omega arith)))
+          ∙ sym (marks-turn marks (l .channel - 1) (l .channel) (omega arith) (omega arith)),
+    )
 
 returns : tie.Need-returns Inv-loop μ-loop
 returns c = let e : c .before .loop .channel ≡ 0 = omega arith in c .before .loop .inv .1 ∙ ap (λ (n : ℕ). marksNumber (drop n (c .before .before .before .args .marks .now))) e

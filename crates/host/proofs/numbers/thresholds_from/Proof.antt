@@ -23,10 +23,11 @@ loop-again : tie.Need-loop-again Inv-loop μ-loop
 loop-again c =
     let l = c .before .before .loop in
     let n = c .before .before .before .before .args .numbers .now in
-    let p = c .before .before .before .before .pre in
-    (simp length-set (l .inv .0),
+    let p = c .before .before .before .before .pre in (
+      simp length-set (l .inv .0),
       l .inv .1 ∙ copy-turn _ n _ (10 + l .channel) (10 + (l .channel + 1)) (omega (arith, settings-26 n p)) (omega arith)
-      ∙ ap (λ (x : ℕ). sets (set (l .thresholds) (l .channel) x) (l .channel + 1) (drop (10 + (l .channel + 1)) n)) (sym (c .at32 .ensures ∙ threshold-32 n p (l .channel))))
+          ∙ ap (λ (x : ℕ). sets (set (l .thresholds) (l .channel) x) (l .channel + 1) (drop (10 + (l .channel + 1)) n)) (sym (c .at32 .ensures ∙ threshold-32 n p (l .channel))),
+    )
 
 returns : tie.Need-returns Inv-loop μ-loop
 returns c =
