@@ -1,3 +1,4 @@
+pub mod BackLaws
 pub mod Check
 pub mod CheckLaws
 pub mod Face
@@ -5,3 +6,4 @@ pub mod FaceLaws
 pub mod FoundLaws
 pub mod Inner
 pub mod NumbersLaws
+pub mod UniqueLaws
