@@ -5,16 +5,16 @@ use mathlib.Core.Bool.{Bool, true, false, cond}
 use mathlib.Core.List.{List, [], _∷_, _++_}
 use native.Mathlib.Nat.{add-comm, mul-le-mul}
 use native.Mathlib.Omega.{arith}
-use borrow.Author.Tests.{eq-eqb, ne-eqb, le-leb}
+use borrow.Author.Tests.{eq-eqb, ne-eqb, eqb-true, le-leb}
 use lib.Dec.{eqb}
 use lib.ListN.{length, drop, length-set}
 use lib.Pow.{shr-shr}
 use Rattle.writer.specs.declared.Phase.{Phase}
 use Rattle.writer.specs.declared.Phase.the-variants.{Idle, Block, Event}
 use Rattle.writer.specs.declared.State.{State}
-use Rattle.writer.specs.State.{isIdle, isBlock, isEvent, mostEvent, stateOk, withBlock, withEvent, withMark, withClosed}
-use Rattle.writer.specs.StateLaws.{InBlock, idle-says, block-says, event-says, words-le, open-block-kept, open-event-kept, post-kept, closing-kept}
-use Rattle.host.specs.Face.{most32, most64, headLimits, heldIn, isSettings, isState, settingsFrom, phaseFrom, table, marksFrom, stateFrom, bitOf, settingsNumbers, phaseNumber, marksNumber, headOf, numbersOf, blockOpened, posted, eventClosed, OpenBlockFace, OpenEventFace, PostFace, CloseFace}
+use Rattle.writer.specs.State.{isIdle, isBlock, isEvent, mostEvent, stateOk, idle, withBlock, withEvent, withMark, withClosed}
+use Rattle.writer.specs.StateLaws.{InBlock, idle-says, block-says, event-says, words-le, open-block-kept, open-event-kept, post-kept, closing-kept, finish-kept, set-up-kept}
+use Rattle.host.specs.Face.{most32, most64, headLimits, heldIn, isSettings, isState, settingsFrom, phaseFrom, table, marksFrom, stateFrom, bitOf, settingsNumbers, phaseNumber, marksNumber, headOf, numbersOf, blockOpened, posted, eventClosed, finishOn, orElse, SetUpFace, OpenBlockFace, OpenEventFace, PostFace, CloseFace, FinishFace}
 use Rattle.host.specs.NumbersLaws.{marks-small, state-settings-held}
 use Rattle.host.specs.FaceLaws.{settings-back}
 
@@ -162,3 +162,26 @@ unfolding withClosed
 close-loads n store words n′ words′ f =
     let a = no-ten (isState n) _ (f .number) in
     rw (f .numbers) (call-loads n _ (a .0) refl (closing-kept (stateFrom n) store (length words) (omega (arith, sixteen n)) (a .1)) refl)
+
+pub finish-loads : (n words : List ℕ) (r : ℕ) (n′ words′ : List ℕ) → FinishFace n words r n′ words′ → finishOn n (length words) ≡ 0 → Loads n′ (idle (stateFrom n .settings))
+unfolding idle
+finish-loads n words r n′ words′ f e =
+    let a = no-ten (isState n) _ (sym e) in
+    rw (f .numbers, e) (call-loads n _ (a .0) refl (finish-kept (stateFrom n) (length words) (a .1)) refl)
+
+pub set-up-loads : (m n n′ : List ℕ) → SetUpFace m n 0 n′ → Loads n′ (idle (settingsFrom m))
+unfolding idle
+set-up-loads m n n′ f =
+    let a = no-one (isSettings m) _ (first-zero _ _ (f .number)) in
+    rw (f .numbers) (state-back _ m (set-up-kept (settingsFrom m) (a .1)) refl (a .0) refl)
+  where
+    no-one : (b : Bool) (number : ℕ) → cond b number 1 ≡ 0 → (b ≡ true) × (number ≡ 0)
+    no-one true number e = (refl, e)
+    no-one false number e = absurd (omega arith)
+
+    first-zero : (number later : ℕ) → 0 ≡ orElse number later → number ≡ 0
+    first-zero number later e = go (eqb number 0) refl e
+      where
+        go : (b : Bool) → eqb number 0 ≡ b → 0 ≡ cond b later number → number ≡ 0
+        go true h f = eqb-true number 0 h
+        go false h f = sym f
