@@ -2,8 +2,8 @@
 use Prim.Native.Nat.{ℕ, zero, suc, _+_, _*_, _/_, _%_, _^_, _≤_, _<_}
 use mathlib.Core.Path.{_≡_, refl, sym, ap, ap₂, _∙_, subst}
 use mathlib.Core.Bool.{Bool, true, false, cond}
-use mathlib.Core.List.{List, [], _∷_, _++_}
-use native.Mathlib.Nat.{add-comm, mul-le-mul}
+use mathlib.Core.List.{List, [], _∷_}
+use native.Mathlib.Nat.{add-comm}
 use native.Mathlib.Omega.{arith}
 use borrow.Author.Tests.{eq-eqb, ne-eqb, eqb-true, le-leb}
 use lib.Dec.{eqb}
@@ -13,7 +13,7 @@ use Rattle.writer.specs.declared.Phase.{Phase}
 use Rattle.writer.specs.declared.Phase.the-variants.{Idle, Block, Event}
 use Rattle.writer.specs.declared.State.{State}
 use Rattle.writer.specs.State.{isIdle, isBlock, isEvent, mostEvent, stateOk, idle, withBlock, withEvent, withMark, withClosed}
-use Rattle.writer.specs.StateLaws.{InBlock, idle-says, block-says, event-says, words-le, open-block-kept, open-event-kept, post-kept, closing-kept, finish-kept, set-up-kept}
+use Rattle.writer.specs.StateLaws.{idle-says, block-says, event-says, words-le, open-block-kept, open-event-kept, post-kept, closing-kept, finish-kept, set-up-kept}
 use Rattle.host.specs.Face.{most32, most64, headLimits, heldIn, isSettings, isState, settingsFrom, phaseFrom, table, marksFrom, stateFrom, bitOf, settingsNumbers, phaseNumber, marksNumber, headOf, numbersOf, blockOpened, posted, eventClosed, finishOn, orElse, SetUpFace, OpenBlockFace, OpenEventFace, PostFace, CloseFace, FinishFace}
 use Rattle.host.specs.NumbersLaws.{marks-small, state-settings-held}
 use Rattle.host.specs.FaceLaws.{settings-back}

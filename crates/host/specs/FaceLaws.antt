@@ -1,15 +1,14 @@
 -- The numbers that a call leaves are those of the state that it gives, and each call's statement allows one result. Assumes nothing.
-use Prim.Native.Nat.{ℕ, zero, suc, _+_, _*_, _/_, _%_, _^_, _≤_, _<_}
+use Prim.Native.Nat.{ℕ, zero, suc, _+_, _*_, _^_, _≤_}
 use mathlib.Core.Path.{_≡_, refl, sym, ap, ap₂, _∙_}
 use mathlib.Core.Bool.{Bool, true, false, cond, true≢false}
-use mathlib.Core.List.{List, [], _∷_, _++_}
+use mathlib.Core.List.{List, _∷_, _++_}
 use native.Mathlib.Omega.{arith}
 use native.Mathlib.Numerals.{add-one}
 use borrow.Author.Tests.{eq-eqb, ne-eqb, eqb-true}
 use lib.Dec.{eqb}
-use lib.ListN.{length, getD, take, drop, set}
+use lib.ListN.{length, getD, drop}
 use lib.Seq.{drop-cons}
-use Rattle.ground.specs.ResultLaws.{one-result}
 use Rattle.settings.specs.declared.Settings.{Settings}
 use Rattle.settings.specs.Refusal.{numberOf}
 use Rattle.items.specs.Items.{wordsOf}

@@ -18,7 +18,6 @@ use Rattle.finder.specs.Find.{noPulse, packed}
 use Rattle.finder.specs.RangeLaws.{PulseFits, EachFits, fits-at, pulses-fit, pulses-count, packed-count, packed-at}
 use Rattle.finder.specs.Call.{findNumber, channelPulses, foundPulses, FindSays}
 use Rattle.finder.specs.CallLaws.{accepted, found-none, found-all}
-use Rattle.writer.specs.Calls.{ifAccepted}
 use Rattle.host.specs.Face.{isSettings, settingsFrom, onSettings, orElse, pulseNumbers, rowOf, foundNumbers, FindFace}
 use Rattle.host.specs.Inner.{Small, AllSmall}
 

@@ -1,13 +1,13 @@
 -- Numbers that their fields hold, loaded and stored place by place. Assumes nothing.
-use Prim.Native.Nat.{ℕ, zero, suc, _+_, _*_, _/_, _%_, _^_, _-_, _≤_, _<_}
+use Prim.Native.Nat.{ℕ, zero, suc, _+_, _*_, _%_, _^_, _-_, _≤_, _<_}
 use mathlib.Core.Path.{_≡_, refl, sym, ap, _∙_}
-use mathlib.Core.Bool.{Bool, true, false, cond, _&&_, false≢true}
+use mathlib.Core.Bool.{Bool, true, false, false≢true}
 use mathlib.Core.List.{List, [], _∷_, _++_, append-nil}
-use lib.Dec.{eqb, leb}
+use lib.Dec.{leb}
 use native.Mathlib.Omega.{arith}
 use native.Mathlib.Numerals.{add-one}
 use native.Mathlib.Nat.{pow-suc, lt-of-lt-of-le, zero-add, mod-eq-of-lt}
-use borrow.Author.Tests.{lt-leb, le-leb, leb-true, eqb-true}
+use borrow.Author.Tests.{lt-leb, le-leb, leb-true}
 use lib.Pow.{pow-mono}
 use lib.ListN.{length, getD, take, drop, set, replicate, length-drop, length-take, drop-of-length-le}
 use lib.Seq.{sets, sets-eq, drop-cons, drop-length, take-all, drop-at, getD-take, getD-drop}

@@ -1,6 +1,6 @@
 -- `host::calls::fadc250_open_event` meets its contract. Assumes nothing.
 use borrow.Author.Tests.{not-true, not-false}
-use mathlib.Core.Path.{sym, _∙_, _≡_}
+use mathlib.Core.Path.{sym, _∙_}
 use borrow.Author.Needs.{needs}
 use Rattle.host.specs.FaceLaws.{open-event-none, open-event-face}
 use Rattle.host.specs.NumbersLaws.{state-34}

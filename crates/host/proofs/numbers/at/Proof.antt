@@ -1,10 +1,6 @@
 -- `host::numbers::at` meets its contract. Assumes nothing.
-use mathlib.Core.Path.{_≡_, refl, sym, ap, _∙_}
-use native.Mathlib.Omega.{arith}
-use Prim.Native.Nat.{ℕ, _+_, _*_, _-_, _/_, _%_, _^_, _≤_, _<_}
-use lib.ListN.{length, drop, getD}
-use mathlib.Core.List.{List, []}
-use mathlib.Core.Bool.{Bool, true, false, cond}
+use mathlib.Core.Path.{sym}
+use Prim.Native.Nat.{_-_}
 use Rattle.host.specs.NumbersLaws.{getD-out}
 use borrow.Author.Needs.{needs}
 use Rattle.host.proofs.numbers.at.Statement.{statement}

@@ -1,9 +1,7 @@
 -- `host::numbers::head_limits` meets its contract. Assumes nothing.
-use mathlib.Core.Path.{_≡_, refl, sym, ap, _∙_}
-use native.Mathlib.Omega.{arith}
-use Prim.Native.Nat.{ℕ, _+_, _*_, _-_, _/_, _%_, _^_, _≤_, _<_}
+use mathlib.Core.Path.{refl}
+use Prim.Native.Nat.{_-_}
 use Rattle.host.specs.Face.{headLimits}
-use borrow.Author.Needs.{needs}
 use Rattle.host.proofs.numbers.head_limits.Statement.{statement}
 use Rattle.host.proofs.numbers.head_limits.Tie as tie
 

@@ -1,7 +1,6 @@
 -- `host::numbers::head_of` meets its contract. Assumes nothing.
-use mathlib.Core.Path.{_≡_, refl, sym, ap, _∙_}
 use native.Mathlib.Omega.{arith}
-use Prim.Native.Nat.{ℕ, _+_, _*_, _-_, _/_, _%_, _^_, _≤_, _<_}
+use Prim.Native.Nat.{_-_}
 use Rattle.host.specs.Face.{headOf}
 use borrow.Author.Needs.{needs}
 use Rattle.host.proofs.numbers.head_of.Statement.{statement}

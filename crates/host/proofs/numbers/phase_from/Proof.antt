@@ -1,6 +1,5 @@
 -- `host::numbers::phase_from` meets its contract. Assumes nothing.
 use borrow.Author.Tests.{eq-eqb, ne-eqb}
-use borrow.Author.Needs.{needs}
 use Rattle.host.proofs.numbers.phase_from.Statement.{statement}
 use Rattle.host.proofs.numbers.phase_from.Tie as tie
 

@@ -1,8 +1,7 @@
 -- `host::numbers::put_front` meets its contract. Assumes nothing.
-use mathlib.Core.Path.{_≡_, refl, sym, ap, _∙_}
-use native.Mathlib.Omega.{arith}
+use mathlib.Core.Path.{_≡_, refl, sym, _∙_}
 use native.Mathlib.Numerals.{add-one}
-use Prim.Native.Nat.{ℕ, _+_, _*_, _-_, _/_, _%_, _^_, _≤_, _<_}
+use Prim.Native.Nat.{_+_, _-_}
 use Rattle.host.specs.NumbersLaws.{copy-turn, copy-done, sets-front}
 use lib.ListN.{length, drop, length-set}
 use lib.Seq.{sets}

@@ -1,9 +1,7 @@
 -- `host::numbers::settings_limits` meets its contract. Assumes nothing.
-use mathlib.Core.Path.{_≡_, refl, sym, ap, _∙_}
-use native.Mathlib.Omega.{arith}
-use Prim.Native.Nat.{ℕ, _+_, _*_, _-_, _/_, _%_, _^_, _≤_, _<_}
+use mathlib.Core.Path.{refl}
+use Prim.Native.Nat.{_-_}
 use Rattle.host.specs.Face.{settingsLimits}
-use borrow.Author.Needs.{needs}
 use Rattle.host.proofs.numbers.settings_limits.Statement.{statement}
 use Rattle.host.proofs.numbers.settings_limits.Tie as tie
 

@@ -1,7 +1,7 @@
 -- `host::numbers::state_from` meets its contract. Assumes nothing.
 use native.Mathlib.Omega.{arith}
 use borrow.Author.Needs.{needs}
-use Rattle.host.specs.Face.{stateFrom, isSettings}
+use Rattle.host.specs.Face.{stateFrom}
 use Rattle.host.specs.NumbersLaws.{state-34, state-settings-held, head-32, tail-part}
 use Rattle.host.proofs.numbers.state_from.Statement.{statement}
 use Rattle.host.proofs.numbers.state_from.Tie as tie
