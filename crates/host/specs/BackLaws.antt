@@ -1,7 +1,7 @@
 -- The numbers of a state in its ranges are a state, and load back to it: calls from C chain as the library's calls do. Assumes nothing.
 use Prim.Native.Nat.{ℕ, zero, suc, _+_, _*_, _/_, _%_, _^_, _≤_, _<_}
 use mathlib.Core.Path.{_≡_, refl, sym, ap, ap₂, _∙_, subst}
-use mathlib.Core.Bool.{Bool, true, false, cond}
+use mathlib.Core.Bool.{Bool, true, false, cond, _||_, false≢true}
 use mathlib.Core.List.{List, [], _∷_}
 use native.Mathlib.Nat.{add-comm}
 use native.Mathlib.Omega.{arith}
@@ -13,7 +13,12 @@ use Rattle.writer.specs.declared.Phase.{Phase}
 use Rattle.writer.specs.declared.Phase.the-variants.{Idle, Block, Event}
 use Rattle.writer.specs.declared.State.{State}
 use Rattle.writer.specs.State.{isIdle, isBlock, isEvent, mostEvent, stateOk, idle, withBlock, withEvent, withMark, withClosed}
-use Rattle.writer.specs.StateLaws.{idle-says, block-says, event-says, words-le, open-block-kept, open-event-kept, post-kept, closing-kept, finish-kept, set-up-kept}
+use Rattle.writer.specs.StateLaws.{idle-says, block-says, event-says, state-settings, trailer-fits, words-le, open-block-kept, open-event-kept, post-kept, closing-kept, finish-kept, set-up-kept}
+use Rattle.ground.specs.Tests.{oneOf}
+use Rattle.settings.specs.RangesLaws.{settings-in-range}
+use Rattle.writer.specs.Calls.{endItems}
+use Rattle.writer.specs.CallsLaws.{finish-accepted}
+use Rattle.writer.specs.WordsLaws.{end-length, multiple-positive, fillers-lt}
 use Rattle.host.specs.Face.{most32, most64, headLimits, heldIn, isSettings, isState, settingsFrom, phaseFrom, table, marksFrom, stateFrom, bitOf, settingsNumbers, phaseNumber, marksNumber, headOf, numbersOf, blockOpened, posted, eventClosed, finishOn, orElse, SetUpFace, OpenBlockFace, OpenEventFace, PostFace, CloseFace, FinishFace}
 use Rattle.host.specs.NumbersLaws.{marks-small, state-settings-held}
 use Rattle.host.specs.FaceLaws.{settings-back}
@@ -185,3 +190,21 @@ set-up-loads m n n′ f =
         go : (b : Bool) → eqb number 0 ≡ b → 0 ≡ cond b later number → number ≡ 0
         go true h f = eqb-true number 0 h
         go false h f = sym f
+
+-- the length that a finish answers is below 2^32, so that no refusal can be taken for one
+pub finish-below : (n : List ℕ) (room : ℕ) → finishOn n room ≡ 0
+    → stateFrom n .words + length (endItems (stateFrom n .settings) (stateFrom n .words)) < 2 ^ 32
+finish-below n room e =
+    let s = stateFrom n in
+    let ok = finish-accepted s room (no-ten (isState n) _ (sym e) .1) .state in
+    let good = state-settings s ok in
+    omega (arith, trailer-fits s ok, end-length (s .settings) (s .words), fillers-lt (s .settings .multiple) (s .words + 1) (multiple-positive (s .settings) good), most-4 (s .settings .multiple) (settings-in-range (s .settings) good .multiple))
+  where
+    most-4 : (m : ℕ) → oneOf m (1 ∷ 2 ∷ 4 ∷ []) ≡ true → m ≤ 4
+    most-4 m h = go (eqb m 1) (eqb m 2) (eqb m 4) refl refl refl h
+      where
+        go : (a b c : Bool) → eqb m 1 ≡ a → eqb m 2 ≡ b → eqb m 4 ≡ c → (a || b) || c ≡ true → m ≤ 4
+        go true b c p q r e = omega (arith, eqb-true m 1 p)
+        go false true c p q r e = omega (arith, eqb-true m 2 q)
+        go false false true p q r e = omega (arith, eqb-true m 4 r)
+        go false false false p q r e = absurd (false≢true e)
