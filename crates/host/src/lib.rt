@@ -1,7 +1,12 @@
-// What C links: the check of a block of bytes.
+// What C links: the check of a block of bytes, and the calls over numbers that the host lends.
 ghost use mathlib.Core.Path.{_≡_};
 ghost use Prim.Native.Nat.{_+_, _*_, _^_};
 ghost use Rattle.host.specs.Check.{checkNumber};
+
+mod calls;
+mod found;
+mod numbers;
+
 use reader::Scan;
 use reader::Step;
 

@@ -1,0 +1,30 @@
+-- `host::numbers::head_of` meets its contract. Assumes nothing.
+use native.Mathlib.Omega.{arith}
+use Prim.Native.Nat.{_-_}
+use Rattle.host.specs.Face.{headOf}
+use borrow.Author.Needs.{needs}
+use Rattle.host.proofs.numbers.head_of.Statement.{statement}
+use Rattle.host.proofs.numbers.head_of.Tie as tie
+
+sixteen : tie.Need-slice-aggregate-marks-number
+sixteen c = search needs
+
+marks-number-requires : tie.Need-marks-number-requires
+marks-number-requires c κs = omega (arith, sixteen c)
+
+returns : tie.Need-returns
+unfolding headOf
+returns c = cc
+
+pub head-of-spec : {M : Type 1} → statement M
+head-of-spec =
+    tie.close
+    (tie.spec
+    (λ c κs. search needs)
+    (λ c. search needs)
+    marks-number-requires
+    (λ c. search needs)
+    (λ c. search needs)
+    (λ c. search needs)
+    (λ c. search needs)
+    returns)

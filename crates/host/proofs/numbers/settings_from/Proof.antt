@@ -1,0 +1,30 @@
+-- `host::numbers::settings_from` meets its contract. Assumes nothing.
+use borrow.Author.Needs.{needs}
+use Rattle.host.specs.Face.{settingsFrom}
+use Rattle.host.specs.NumbersLaws.{settings-32}
+use Rattle.host.proofs.numbers.settings_from.Statement.{statement}
+use Rattle.host.proofs.numbers.settings_from.Tie as tie
+
+returns : tie.Need-returns
+unfolding settingsFrom
+returns c =
+    let start = c .before .before .before .before .before .before .before .before .before .before .before .before in
+    let f = settings-32 (start .args .numbers .now) (start .pre) in
+    cc (f .mode, f .pl, f .slot, f .times, f .multiple)
+
+pub settings-from-spec : {M : Type 1} → statement M
+settings-from-spec =
+    tie.close
+    (tie.spec
+    (λ c κs. search needs)
+    (λ c κs. search needs)
+    (λ c κs. search needs)
+    (λ c κs. search needs)
+    (λ c κs. search needs)
+    (λ c κs. search needs)
+    (λ c κs. search needs)
+    (λ c κs. search needs)
+    (λ c κs. search needs)
+    (λ c κs. search needs)
+    (λ c κs. search needs)
+    returns)

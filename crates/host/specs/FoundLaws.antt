@@ -1,0 +1,124 @@
+-- What the finder's call stores: the pulses found, as 28 numbers. Assumes nothing.
+use Prim.Native.Nat.{ℕ, _+_, _<_, _≤_}
+use mathlib.Core.Path.{_≡_, refl, sym, ap, ap₂, _∙_}
+use mathlib.Core.Bool.{Bool, true, false, cond}
+use mathlib.Core.List.{List, [], _∷_, _++_, append-assoc}
+use native.Mathlib.Omega.{arith}
+use borrow.Author.Tests.{eqb-true, lt-ltb, le-ltb}
+use lib.Dec.{eqb, ltb}
+use lib.ListN.{length, getD, replicate, length-append}
+use Rattle.ground.specs.Splice.{splice}
+use Rattle.ground.specs.SpliceLaws.{splice-splice, length-splice}
+use Rattle.settings.specs.declared.Settings.{Settings}
+use Rattle.settings.specs.Refusal.{numberOf}
+use Rattle.finder.specs.declared.Answer.{Answer}
+use Rattle.finder.specs.declared.Pulse.{Pulse}
+use Rattle.finder.specs.declared.Pulses.{Pulses}
+use Rattle.finder.specs.Find.{noPulse, packed}
+use Rattle.finder.specs.RangeLaws.{PulseFits, EachFits, fits-at, pulses-fit, pulses-count, packed-count, packed-at}
+use Rattle.finder.specs.Call.{findNumber, channelPulses, foundPulses, FindSays}
+use Rattle.finder.specs.CallLaws.{accepted, found-none, found-all}
+use Rattle.host.specs.Face.{isSettings, settingsFrom, onSettings, orElse, pulseNumbers, rowOf, foundNumbers, FindFace}
+use Rattle.host.specs.Inner.{Small, AllSmall}
+
+-- ---- what is found is small
+
+fits-small : (n : ℕ) (p : Pulse) → n ≤ 500 → PulseFits n p → Small p
+fits-small n p h f =
+    record {
+      tc = omega (arith, f .tc);
+      first = omega (arith, f .tc, f .first);
+      last = omega (arith, f .last);
+      coarse = omega (arith, f .time .coarse);
+    }
+
+packed-small : (n : ℕ) (l : List Pulse) → n ≤ 500 → length l ≤ 3 → EachFits n l → AllSmall (packed l)
+packed-small n l h k e =
+    record {
+      count = rw (packed-count l) k;
+      each = λ i less. let inside : i < length l = omega (arith, less, packed-count l) in rw (packed-at l i noPulse k inside) (fits-small n (getD l i noPulse) h (fits-at n l i noPulse e inside));
+    }
+
+pulses-small : (s : Settings) (c : ℕ) (w : List ℕ) → AllSmall (packed (foundPulses s c w))
+unfolding channelPulses
+pulses-small s c w = go (eqb (findNumber s c w) 0) refl
+  where
+    go : (b : Bool) → eqb (findNumber s c w) 0 ≡ b → AllSmall (packed (foundPulses s c w))
+    go true e =
+        let a = accepted s c w (eqb-true _ 0 e) in
+        let t = getD (s .thresholds) c 0 in
+        rw (found-all s c w e)
+        (packed-small (length w) (channelPulses s c w) (omega (arith, a .long, a .settings .nw)) (omega (arith, pulses-count w t (s .nsb) (s .nsa) (s .limit) 0, a .settings .limit)) (pulses-fit w t (s .nsb) (s .nsa) (s .limit) 0 (a .settings .nsa .0)))
+    go false e = rw (found-none s c w e) (packed-small 0 [] (omega arith) (omega arith) tt)
+
+pub found-small : (s : Settings) (c : ℕ) (w : List ℕ) (a : Answer) → FindSays s c w a → AllSmall (a .found)
+found-small s c w a d = rw (d .found) (pulses-small s c w)
+
+-- ---- the rows
+
+pub row-full : (found : Pulses) (i : ℕ) → i < found .count → rowOf found i ≡ pulseNumbers (getD (found .pulses) i noPulse)
+unfolding rowOf
+row-full found i h = rw (lt-ltb _ _ h)
+
+pub row-empty : (found : Pulses) (i : ℕ) → found .count ≤ i → rowOf found i ≡ replicate 9 0
+unfolding rowOf
+row-empty found i h = rw (le-ltb _ _ h)
+
+row-nine : (found : Pulses) (i : ℕ) → length (rowOf found i) ≡ 9
+unfolding rowOf pulseNumbers
+row-nine found i = go (ltb i (found .count))
+  where
+    go : (b : Bool) → length (cond b (pulseNumbers (getD (found .pulses) i noPulse)) (replicate 9 0)) ≡ 9
+    go true = refl
+    go false = refl
+
+-- four writings behind each other are one of 28 numbers
+pub found-put : (out : List ℕ) (found : Pulses) {o p q r a b c : List ℕ} → 28 ≤ length out → a ≡ rowOf found 0 → b ≡ rowOf found 1 → c ≡ rowOf found 2
+    → o ≡ splice out 0 (found .count ∷ []) → p ≡ splice o 1 a → q ≡ splice p 10 b → r ≡ splice q 19 c → r ≡ splice out 0 (foundNumbers found)
+unfolding foundNumbers
+found-put out found h ea eb ec eo ep eq er =
+    let one = found .count ∷ [] in
+    let a = rowOf found 0 in
+    let b = rowOf found 1 in
+    let c = rowOf found 2 in
+    let at-b : 1 + length a ≡ 10 = omega (arith, row-nine found 0) in
+    let at-c : 1 + length (a ++ b) ≡ 19 = omega (arith, length-append a b, row-nine found 0, row-nine found 1) in
+    let first : splice (splice out 0 one) 1 (a ++ (b ++ c)) ≡ splice out 0 (one ++ (a ++ (b ++ c))) = splice-splice out 0 one (a ++ (b ++ c)) (omega arith) in
+    let base = splice out 0 one in
+    let room : 1 ≤ length base = omega (arith, length-splice out 0 one (omega arith)) in
+    let second : splice (splice base 1 a) 10 b ≡ splice base 1 (a ++ b) = ap (λ (k : ℕ). splice (splice base 1 a) k b) (sym at-b) ∙ splice-splice base 1 a b room in
+    let third : splice (splice base 1 (a ++ b)) 19 c ≡ splice base 1 ((a ++ b) ++ c) = ap (λ (k : ℕ). splice (splice base 1 (a ++ b)) k c) (sym at-c) ∙ splice-splice base 1 (a ++ b) c room in
+    er
+    ∙ ap₂ (λ (x y : List ℕ). splice x 19 y) (eq ∙ ap₂ (λ (x y : List ℕ). splice x 10 y) (ep ∙ ap₂ (λ (x y : List ℕ). splice x 1 y) eo ea) eb) ec
+    ∙ ap (λ (x : List ℕ). splice x 19 c) second
+    ∙ third
+    ∙ ap (λ (x : List ℕ). splice base 1 x) (append-assoc a b c)
+    ∙ first
+
+-- ---- the call
+
+pub find-none : (m : List ℕ) (c : ℕ) (w out : List ℕ) → isSettings m ≡ false → FindFace m c w out 1 out
+find-none m c w out e = record { number = rw e; numbers = refl }
+
+module _ (m : List ℕ) (c : ℕ) (w out : List ℕ) {s : Settings} {a : Answer} (e : isSettings m ≡ true) (f : s ≡ settingsFrom m) (d : FindSays s c w a) where
+  first-number : (later : ℕ) → orElse (onSettings m (findNumber (settingsFrom m) c w)) later ≡ orElse (numberOf (a .refusal)) later
+  first-number later =
+      ap (λ (k : ℕ). orElse k later) (ap (λ (b : Bool). cond b (findNumber (settingsFrom m) c w) 1) e ∙ sym (d .refusal ∙ ap (λ (x : Settings). findNumber x c w) f))
+
+  pub find-refused : {r : ℕ} → r ≡ numberOf (a .refusal) → eqb (numberOf (a .refusal)) 0 ≡ false → FindFace m c w out r out
+  find-refused g h =
+      let later : ℕ = cond (ltb (length out) 28) 9 0 in
+      record {
+        number = g ∙ sym (first-number later ∙ ap (λ (b : Bool). cond b later (numberOf (a .refusal))) h);
+        numbers = rw (ap (λ (k : ℕ). eqb k 0) g ∙ h);
+      }
+
+  pub find-short : eqb (numberOf (a .refusal)) 0 ≡ true → length out < 28 → FindFace m c w out 9 out
+  find-short h k = record { number = sym (first-number (cond (ltb (length out) 28) 9 0) ∙ rw (h, lt-ltb _ _ k)); numbers = refl }
+
+  pub find-face : {out′ : List ℕ} → eqb (numberOf (a .refusal)) 0 ≡ true → 28 ≤ length out → out′ ≡ splice out 0 (foundNumbers (a .found)) → FindFace m c w out 0 out′
+  find-face h k g =
+      record {
+        number = sym (first-number (cond (ltb (length out) 28) 9 0) ∙ rw (h, le-ltb _ _ k));
+        numbers = g ∙ ap (λ (x : Pulses). splice out 0 (foundNumbers x)) (d .found ∙ ap (λ (x : Settings). packed (foundPulses x c w)) f);
+      }

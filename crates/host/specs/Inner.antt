@@ -1,0 +1,28 @@
+-- What the inner functions ask and leave. Assumes nothing.
+use Prim.Native.Nat.{ℕ, _<_, _≤_}
+use mathlib.Core.Path.{_≡_}
+use mathlib.Core.List.{List, _++_}
+use lib.ListN.{drop, getD}
+use Rattle.finder.specs.declared.Pulse.{Pulse}
+use Rattle.finder.specs.declared.Pulses.{Pulses}
+use Rattle.finder.specs.Find.{noPulse}
+use Rattle.writer.specs.declared.State.{State}
+use Rattle.writer.specs.Calls.{ifAccepted}
+use Rattle.host.specs.Face.{headOf}
+
+-- an accepted call's state over the first eight of the numbers n
+pub record Kept (n : List ℕ) (number : ℕ) (s : State) (r : ℕ) (n′ : List ℕ) : Type 0 where
+  pub answer : r ≡ number
+  pub left : n′ ≡ ifAccepted number (headOf s ++ drop 8 n) n
+
+-- a pulse's places are 32-bit numbers
+pub record Small (p : Pulse) : Type 0 where
+  pub tc : p .tc < 4294967296
+  pub first : p .first < 4294967296
+  pub last : p .last < 4294967296
+  pub coarse : p .time .coarse < 4294967296
+
+-- at most three pulses, and such are their places
+pub record AllSmall (found : Pulses) : Type 0 where
+  pub count : found .count ≤ 3
+  pub each : (i : ℕ) → i < found .count → Small (getD (found .pulses) i noPulse)

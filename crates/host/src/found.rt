@@ -1,0 +1,97 @@
+// The finder's call: the pulses found, as 28 numbers that the host lends.
+ghost use mathlib.Core.Path.{_≡_};
+ghost use Prim.Native.Nat.{_+_, _<_, _≤_};
+ghost use lib.ListN.{length};
+ghost use Rattle.ground.specs.Splice.{splice};
+ghost use Rattle.host.specs.Face.{pulseNumbers, rowOf, foundNumbers, FindFace};
+ghost use Rattle.host.specs.Inner.{Small, AllSmall};
+use crate::numbers::is_settings;
+use crate::numbers::settings_from;
+use finder::Pulse;
+use finder::Pulses;
+
+// TC, first, last, sum before the cap, coarse, fine, VMIN, VPEAK, rule.
+fn pulse_numbers(pulse: Pulse) -> [u32; 9]
+    requires { ⌜ Small pulse ⌝ }
+    ensures { λ r. ⌜ r ≡ pulseNumbers pulse ⌝ }
+{
+    let time = pulse.time;
+    let rule = time.rule;
+    let rule_is = finder::rule_number(rule);
+    [
+        pulse.tc as u32,
+        pulse.first as u32,
+        pulse.last as u32,
+        pulse.sum,
+        time.coarse as u32,
+        time.fine,
+        time.vmin,
+        time.vpeak,
+        rule_is,
+    ]
+}
+
+// The nine numbers of a place, zeros past the count.
+fn row_of(found: Pulses, place: usize) -> [u32; 9]
+    requires { ⌜ (place < 3) × AllSmall found ⌝ }
+    ensures { λ r. ⌜ r ≡ rowOf found place ⌝ }
+{
+    if place < found.count {
+        let pulses = found.pulses;
+        return pulse_numbers(pulses[place]);
+    }
+    [0; 9]
+}
+
+// Copies `new` into the numbers from a place on.
+fn put_at(out: &mut [u32], at: usize, new: &[u32])
+    requires { ⌜ at + length (now new) ≤ length (now out) ⌝ }
+    ensures { λ _. ⌜ now (out .exit) ≡ splice (now (out .entry)) at (now (new .entry)) ⌝ }
+{
+    let mut i = 0;
+    while i < new.len() {
+        out[at + i] = new[i];
+        i += 1;
+    }
+}
+
+// The count, then the nine numbers of each place.
+fn put_found(out: &mut [u32], found: Pulses)
+    requires { ⌜ (28 ≤ length (now out)) × AllSmall found ⌝ }
+    ensures { λ _. ⌜ now (out .exit) ≡ splice (now (out .entry)) 0 (foundNumbers found) ⌝ }
+{
+    let count = [found.count as u32];
+    let first = row_of(found, 0);
+    let second = row_of(found, 1);
+    let third = row_of(found, 2);
+    put_at(out, 0, &count);
+    put_at(out, 1, &first);
+    put_at(out, 10, &second);
+    put_at(out, 19, &third);
+}
+
+#[no_mangle]
+pub extern "C" fn fadc250_find(
+    settings: &[u64],
+    channel: u32,
+    window: &[u16],
+    out: &mut [u32],
+) -> u32
+    ensures { λ r. ⌜ FindFace (now (settings .entry)) channel (now (window .entry)) (now (out .entry)) r (now (out .exit)) ⌝ }
+{
+    if !is_settings(settings) {
+        return 1;
+    }
+    let loaded = settings_from(settings);
+    let answer = finder::find(loaded, channel as usize, window);
+    let refusal = answer.refusal;
+    if !settings::accepted(refusal) {
+        return settings::number(refusal);
+    }
+    if out.len() < 28 {
+        return 9;
+    }
+    let found = answer.found;
+    put_found(out, found);
+    0
+}
