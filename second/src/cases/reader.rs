@@ -1,0 +1,283 @@
+//! Cases for the reader and the lister: good blocks and damaged ones.
+
+use super::{Rng, Second, SequenceCase, Step};
+use crate::reader::LIMIT;
+use crate::words::{self, put, tag, take};
+use std::fmt;
+
+#[derive(Clone, Debug, PartialEq, Eq)]
+pub struct ReaderCase {
+    pub seed: u64,
+    pub number: u64,
+    /// What was done to the input.
+    pub kind: &'static str,
+    pub bytes: Vec<u8>,
+}
+
+impl ReaderCase {
+    pub fn new(seed: u64, number: u64) -> ReaderCase {
+        let rng = &mut Rng::of_case(3, seed, number);
+        let (kind, words) = input(rng);
+        let mut bytes = bytes_of(&words);
+        let kind = match rng.below(24) {
+            0 => {
+                bytes.resize(bytes.len() + rng.between(1, 3) as usize, 0x5A);
+                "bytes too many"
+            }
+            1 => {
+                let place = rng.place(bytes.len());
+                bytes.truncate(place);
+                "cut at a byte"
+            }
+            _ => kind,
+        };
+        ReaderCase { seed, number, kind, bytes }
+    }
+}
+
+impl fmt::Display for ReaderCase {
+    fn fmt(&self, f: &mut fmt::Formatter) -> fmt::Result {
+        let ReaderCase { seed, number, kind, bytes } = self;
+        write!(f, "reader seed {seed} case {number}: {kind}, {} bytes", bytes.len())
+    }
+}
+
+fn bytes_of(words: &[u32]) -> Vec<u8> {
+    words.iter().flat_map(|word| word.to_be_bytes()).collect()
+}
+
+/// The input cut before each of its bytes in turn, and whole.
+pub fn every_cut(bytes: &[u8]) -> impl Iterator<Item = &[u8]> {
+    (0..=bytes.len()).map(|end| &bytes[..end])
+}
+
+/// The input with each of its bits flipped in turn.
+pub fn every_flip(bytes: &[u8]) -> impl Iterator<Item = Vec<u8>> + '_ {
+    (0..bytes.len() * 8).map(|bit| {
+        let mut flipped = bytes.to_vec();
+        flipped[bit / 8] ^= 0x80 >> (bit % 8);
+        flipped
+    })
+}
+
+/// Blocks about the place 4,194,303 (16 MB each): the longest that can be told
+/// by a trailer, one with a word more, the same cut before its last word, and
+/// the longest cut before its trailer.
+pub fn limit_cases() -> impl Iterator<Item = ReaderCase> {
+    let make = |number: u64, items: usize, end: bool| {
+        let mut words = vec![words::block_header(5, 1, 1), words::event_header(5, 9)];
+        words.resize(2 + items, put(1, 31, 31) | put(words::INTEGRAL, 30, 27));
+        if end {
+            words.push(words::trailer(5, (words.len() as u32 + 1) & 0x3F_FFFF));
+        }
+        ReaderCase { seed: 0, number, kind: "limit", bytes: bytes_of(&words) }
+    };
+    let cases = [(LIMIT - 3, true), (LIMIT - 2, true), (LIMIT - 2, false), (LIMIT - 3, false)];
+    (0..).zip(cases).map(move |(number, (items, end))| make(number, items, end))
+}
+
+fn input(rng: &mut Rng) -> (&'static str, Vec<u32>) {
+    let mut words = match rng.below(3) {
+        0 => written(rng),
+        _ => any_block(rng),
+    };
+    match rng.below(16) {
+        0 | 1 => ("one good block", words),
+        2 => ("good blocks", several(rng, words)),
+        3 => ("nothing or noise", noise(rng)),
+        4 => ("long input", long(rng, &words)),
+        5 => {
+            words = several(rng, words);
+            damage(rng, &mut words);
+            ("one of several damaged", words)
+        }
+        6 | 7 => {
+            damage(rng, &mut words);
+            recount(&mut words);
+            ("damaged and recounted", words)
+        }
+        8 => {
+            for _ in 0..rng.between(2, 4) {
+                damage(rng, &mut words);
+            }
+            ("damaged often", words)
+        }
+        _ => (damage(rng, &mut words), words),
+    }
+}
+
+/// What this program's writer makes of a sequence of calls.
+fn written(rng: &mut Rng) -> Vec<u32> {
+    let case = SequenceCase::new(rng.next(), 0);
+    let mut bench = case.bench;
+    let mut words = Vec::new();
+    for step in &case.steps {
+        let answer = bench.apply(&Second, step);
+        if matches!(step, Step::Finish { .. }) && answer >> 32 == 0 {
+            words.extend_from_slice(&bench.words[..answer as usize]);
+        }
+    }
+    if words.is_empty() {
+        words = any_block(rng); // no block was finished
+    }
+    words
+}
+
+/// A block of the layout, with fields and orders that the writer never makes.
+fn any_block(rng: &mut Rng) -> Vec<u32> {
+    let slot = rng.below(32) as u32;
+    if rng.once_in(20) {
+        return vec![words::empty(slot) | rng.below(1 << 22) as u32];
+    }
+    let events = if rng.once_in(30) { 255 } else { rng.between(1, 4) as u32 };
+    let mut block = vec![words::block_header(slot, rng.below(1_024) as u32, events)];
+    if rng.once_in(2) {
+        block.push(rng.below(1 << 29) as u32);
+    }
+    for _ in 0..events {
+        block.push(words::event_header(slot, rng.below(1 << 22) as u32));
+        let times = rng.place(3);
+        block.extend(&words::trigger_time(rng.below(1 << 48))[..times]);
+        let items = if events == 255 { rng.below(2) } else { rng.below(6) };
+        for _ in 0..items {
+            any_item(rng, &mut block);
+        }
+    }
+    block.push(words::trailer(slot, block.len() as u32 + 1));
+    for _ in 0..rng.below(4) {
+        block.push(words::filler(slot) | rng.below(1 << 22) as u32);
+    }
+    block
+}
+
+fn any_item(rng: &mut Rng, block: &mut Vec<u32>) {
+    let fields = rng.below(1 << 27) as u32;
+    let channel = take(fields, 26, 23);
+    match rng.pick(&[
+        words::WINDOW,
+        words::PULSE_RAW,
+        words::INTEGRAL,
+        words::TIME,
+        words::PEDESTAL,
+    ]) {
+        words::WINDOW => {
+            let width = match rng.below(8) {
+                0 => rng.pick(&[1, 2, 499, 500]),
+                _ => rng.between(1, 20),
+            };
+            block.push(words::window(channel, width as u32));
+            any_pairs(rng, width as usize, block);
+        }
+        words::PULSE_RAW => {
+            block.push(words::pulse_raw(channel, take(fields, 22, 21), take(fields, 9, 0)));
+            let width = match rng.below(8) {
+                0 => rng.pick(&[1, 2, 498, 499, 500]),
+                _ => rng.between(1, 20),
+            };
+            any_pairs(rng, width as usize, block);
+        }
+        words::TIME => {
+            block.push(put(1, 31, 31) | put(words::TIME, 30, 27) | (fields & !put(15, 18, 15)))
+        }
+        one_word => block.push(put(1, 31, 31) | put(one_word, 30, 27) | fields),
+    }
+}
+
+fn any_pairs(rng: &mut Rng, samples: usize, block: &mut Vec<u32>) {
+    let samples: Vec<u16> = (0..samples).map(|_| rng.below(8_192) as u16).collect();
+    block.extend(words::pairs(&samples));
+}
+
+fn several(rng: &mut Rng, mut words: Vec<u32>) -> Vec<u32> {
+    for _ in 0..rng.between(1, 3) {
+        words.extend(any_block(rng));
+    }
+    words
+}
+
+fn noise(rng: &mut Rng) -> Vec<u32> {
+    let slot = rng.below(32) as u32;
+    let length = rng.below(30);
+    match rng.below(3) {
+        0 => Vec::new(),
+        1 => (0..length).map(|_| rng.next() as u32).collect(),
+        _ => (0..length).map(|_| plausible(rng, slot)).collect(),
+    }
+}
+
+/// About the lister's 65,536 bytes: just that many, or a word more or less.
+fn long(rng: &mut Rng, block: &[u32]) -> Vec<u32> {
+    let length = rng.pick(&[16_383, 16_384, 16_385]);
+    block.iter().copied().cycle().take(length).collect()
+}
+
+/// A word of any type that may well be right where it comes to stand.
+fn plausible(rng: &mut Rng, slot: u32) -> u32 {
+    let number = rng.below(8) as u32;
+    match rng.below(12) {
+        0 => words::block_header(slot, number, number),
+        1 => words::trailer(slot, number),
+        2 => words::event_header(slot, number),
+        3 => words::trigger_time(u64::from(number))[0],
+        4 => words::window(number, rng.pick(&[0, 1, 2, 3, 4, 500, 501, 4_095])),
+        5 => words::pulse_raw(number, number & 3, number),
+        6 => put(1, 31, 31) | put(rng.between(5, 13) as u32, 30, 27),
+        7 => words::empty(slot),
+        8 => words::filler(slot),
+        9 => put(rng.below(1 << 13) as u32, 28, 16) | put(1, 13, 13) | u32::from(rng.once_in(4)),
+        10 => put(rng.below(1 << 13) as u32, 28, 16) | rng.below(1 << 13) as u32,
+        _ => number,
+    }
+}
+
+/// One damage, and its name.
+fn damage(rng: &mut Rng, words: &mut Vec<u32>) -> &'static str {
+    if words.is_empty() {
+        return "empty";
+    }
+    let place = rng.place(words.len());
+    let other = rng.place(words.len());
+    match rng.below(9) {
+        0 | 1 => {
+            words[place] ^= 1 << rng.below(32);
+            "bit flipped"
+        }
+        2 => {
+            words.remove(place);
+            "word lost"
+        }
+        3 => {
+            words.insert(place, words[place]);
+            "word doubled"
+        }
+        4 => {
+            words.swap(place, other);
+            "words swapped"
+        }
+        5 => {
+            words.truncate(place);
+            "cut at a word"
+        }
+        6 => {
+            words[place] = rng.next() as u32;
+            "word at random"
+        }
+        7 => {
+            let slot = take(words[0], 26, 22);
+            words[place] = plausible(rng, slot);
+            "word replaced"
+        }
+        _ => {
+            let slot = take(words[0], 26, 22);
+            words.insert(place, plausible(rng, slot));
+            "word put in"
+        }
+    }
+}
+
+/// Makes the last trailer's count right again.
+fn recount(words: &mut [u32]) {
+    if let Some(place) = words.iter().rposition(|&word| tag(word) == Some(words::TRAILER)) {
+        words[place] = words::trailer(take(words[place], 26, 22), place as u32 + 1);
+    }
+}

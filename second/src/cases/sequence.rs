@@ -1,0 +1,385 @@
+//! Cases for the writer: calls in any order, with what the host does between.
+
+use super::{bad_sample, good_settings, spoil_settings, window, Rng, Second, Side};
+use crate::writer::{Phase, State};
+use std::fmt;
+
+/// All that is lent to the calls.
+#[derive(Clone, Debug, PartialEq, Eq)]
+pub struct Bench {
+    pub state: Vec<u64>,
+    pub store: Vec<u16>,
+    pub words: Vec<u32>,
+}
+
+/// One call, or one deed of the host.  `store` and `words` are how much of the
+/// bench's store and words is lent, at most all of it.
+#[derive(Clone, Debug, PartialEq, Eq)]
+#[rustfmt::skip]
+pub enum Step {
+    SetUp { settings: Vec<u64> },
+    OpenBlock { words: usize, number: u32, events: u32 },
+    OpenEvent { number: u32, time: u64 },
+    Post { store: usize, channel: u32, window: Vec<u16> },
+    Close { store: usize, words: usize },
+    Finish { words: usize },
+    /// One of the state's numbers is altered.
+    Forge { place: usize, value: u64 },
+    /// The state is passed with this many numbers from now on.
+    StateLength { length: usize },
+    /// A sample of the store is overwritten.
+    Overwrite { place: usize, value: u16 },
+    /// Another store is lent from now on, of this many samples.
+    OtherStore { samples: Vec<u16> },
+}
+
+impl Bench {
+    /// Does one step with `side`; what the host does answers 0.
+    pub fn apply(&mut self, side: &dyn Side, step: &Step) -> u64 {
+        let Bench { state, store, words } = self;
+        let (most_store, most_words) = (store.len(), words.len());
+        match step {
+            Step::SetUp { settings } => side.set_up(settings, state).into(),
+            Step::OpenBlock { words: lent, number, events } => {
+                let words = &mut words[..most_words.min(*lent)];
+                side.open_block(state, words, *number, *events).into()
+            }
+            Step::OpenEvent { number, time } => side.open_event(state, *number, *time).into(),
+            Step::Post { store: lent, channel, window } => {
+                let store = &mut store[..most_store.min(*lent)];
+                side.post(state, store, *channel, window).into()
+            }
+            Step::Close { store: lent, words: lent_words } => {
+                let words = &mut words[..most_words.min(*lent_words)];
+                side.close(state, &store[..most_store.min(*lent)], words).into()
+            }
+            Step::Finish { words: lent } => side.finish(state, &mut words[..most_words.min(*lent)]),
+            Step::Forge { place, value } => set(state, *place, *value),
+            Step::StateLength { length } => {
+                state.resize(*length, 0);
+                0
+            }
+            Step::Overwrite { place, value } => set(store, *place, *value),
+            Step::OtherStore { samples } => {
+                store.clone_from(samples);
+                0
+            }
+        }
+    }
+}
+
+fn set<T>(values: &mut [T], place: usize, value: T) -> u64 {
+    if let Some(old) = values.get_mut(place) {
+        *old = value;
+    }
+    0
+}
+
+#[derive(Clone, Debug, PartialEq, Eq)]
+pub struct SequenceCase {
+    pub seed: u64,
+    pub number: u64,
+    /// As it stands before the first step.
+    pub bench: Bench,
+    pub steps: Vec<Step>,
+}
+
+impl SequenceCase {
+    pub fn new(seed: u64, number: u64) -> SequenceCase {
+        let mut rng = Rng::of_case(2, seed, number);
+        let settings = good_settings(&mut rng);
+        let nw = settings.nw as usize;
+        let length = 16 * nw + rng.pick(&[0, 0, 0, 1, nw]);
+        let store = store(&mut rng, length);
+        let long = rng.once_in(60);
+        // Room for three full events, or for very many small ones.
+        let full = 3 + 16 * (1 + nw.div_ceil(2)) * 3;
+        let room = if long { 40_000 } else { 3 * full + 64 };
+        let bench = Bench {
+            state: (0..State::NUMBERS).map(|_| rng.next()).collect(),
+            store,
+            words: (0..room).map(|_| rng.next() as u32).collect(),
+        };
+        let mut maker = Maker { rng, now: bench.clone(), steps: Vec::new(), whole: 0, long };
+        maker.push(Step::SetUp { settings: settings.encode().to_vec() });
+        maker.make();
+        SequenceCase { seed, number, bench, steps: maker.steps }
+    }
+}
+
+impl fmt::Display for SequenceCase {
+    fn fmt(&self, f: &mut fmt::Formatter) -> fmt::Result {
+        let (seed, number, steps) = (self.seed, self.number, self.steps.len());
+        let Bench { store, words, .. } = &self.bench;
+        write!(f, "sequence seed {seed} case {number}: ")?;
+        write!(f, "{steps} steps, store {}, words {}", store.len(), words.len())
+    }
+}
+
+/// A store as the host may lend it: old rows, and sometimes samples that are no
+/// samples, which matter only in rows that are posted and overwritten.
+fn store(rng: &mut Rng, length: usize) -> Vec<u16> {
+    let rarity = rng.pick(&[3, 50, u64::MAX]);
+    let mut sample =
+        |_| if rng.once_in(rarity) { bad_sample(rng) } else { rng.below(8_192) as u16 };
+    (0..length).map(&mut sample).collect()
+}
+
+/// Makes steps while doing them with this program, so as to know what would
+/// come next in a block that succeeds.
+struct Maker {
+    rng: Rng,
+    now: Bench,
+    steps: Vec<Step>,
+    /// Blocks finished.
+    whole: u32,
+    /// A block of many events.
+    long: bool,
+}
+
+impl Maker {
+    fn push(&mut self, step: Step) -> u64 {
+        let answer = self.now.apply(&Second, &step);
+        if matches!(step, Step::Finish { .. }) && answer >> 32 == 0 {
+            self.whole += 1;
+        }
+        self.steps.push(step);
+        answer
+    }
+
+    fn make(&mut self) {
+        let (most, rarity) = if self.long { (700, 60) } else { (90, self.rng.pick(&[3, 8, 30])) };
+        let blocks = self.rng.between(1, 3) as u32;
+        while self.steps.len() < most && self.whole < blocks {
+            if self.rng.once_in(rarity) {
+                self.disturb();
+            } else {
+                let step = self.natural();
+                let answer = self.push(step);
+                // A store that is too short or holds what is no sample would stop
+                // the block for good: mostly another one is lent.
+                if matches!(answer, 2 | 3) && !self.rng.once_in(4) {
+                    self.lend_good_store();
+                }
+            }
+        }
+    }
+
+    fn lend_good_store(&mut self) {
+        let nw = self.state().map_or(16, |state| state.settings.nw as usize);
+        let samples = (0..16 * nw).map(|_| self.rng.below(8_192) as u16).collect();
+        self.push(Step::OtherStore { samples });
+    }
+
+    fn state(&self) -> Option<State> {
+        State::decode(&self.now.state).filter(State::in_range)
+    }
+
+    /// The call that brings the block on.
+    fn natural(&mut self) -> Step {
+        let Some(state) = self.state() else {
+            let mut settings = good_settings(&mut self.rng);
+            // a NW for which the store mostly is long enough
+            settings.nw = settings.nw.min(self.now.store.len() as u64 / 16).max(1);
+            return Step::SetUp { settings: settings.encode().to_vec() };
+        };
+        let step = match state.phase {
+            Phase::Idle => self.open_block(),
+            Phase::Block if state.closed < state.events => self.open_event(),
+            Phase::Block => Step::Finish { words: usize::MAX },
+            Phase::Event if self.wants_post(state.marks) => self.post(&state),
+            Phase::Event => Step::Close { store: usize::MAX, words: usize::MAX },
+        };
+        self.lend_words(step)
+    }
+
+    fn wants_post(&mut self, marks: u16) -> bool {
+        let more = if self.long { 3 } else { 6 };
+        marks != u16::MAX && !self.rng.once_in(more - u64::from(marks == 0))
+    }
+
+    fn open_block(&mut self) -> Step {
+        let number = self.rng.pick(&[0, 1, 2, 500, 1_023]);
+        let events =
+            if self.long { self.rng.pick(&[40, 255]) } else { self.rng.between(1, 4) as u32 };
+        Step::OpenBlock { words: usize::MAX, number, events }
+    }
+
+    fn open_event(&mut self) -> Step {
+        let number = self.rng.pick(&[0, 1, 9, 65_536, 4_194_303]);
+        let time = match self.rng.below(3) {
+            0 => self.rng.pick(&[0, 256, (1 << 24) - 1, 1 << 24, 1 << 27, (1 << 48) - 1]),
+            _ => self.rng.below(1 << 48),
+        };
+        Step::OpenEvent { number, time }
+    }
+
+    fn post(&mut self, state: &State) -> Step {
+        let free: Vec<u32> = (0..16).filter(|c| state.marks >> c & 1 == 0).collect();
+        let channel = self.rng.pick(&free);
+        let threshold = state.settings.thresholds[channel as usize];
+        let window = window(&mut self.rng, state.settings.nw as usize, threshold);
+        Step::Post { store: usize::MAX, channel, window }
+    }
+
+    /// Lends now and then exactly the words that a call needs, or one fewer.
+    fn lend_words(&mut self, mut step: Step) -> Step {
+        let less = match self.rng.below(8) {
+            0 => 0,
+            1 => 1,
+            _ => return step,
+        };
+        let mut tried = self.now.clone();
+        let answer = tried.apply(&Second, &step);
+        let needed = match (&step, State::decode(&tried.state)) {
+            (Step::Finish { .. }, _) => answer as u32 as usize,
+            (_, Some(state)) => state.words as usize,
+            _ => return step,
+        };
+        if let Step::OpenBlock { words, .. } | Step::Close { words, .. } | Step::Finish { words } =
+            &mut step
+        {
+            *words = needed.saturating_sub(less);
+        }
+        step
+    }
+
+    fn disturb(&mut self) {
+        match self.rng.below(7) {
+            0 | 1 => {
+                let step = self.any_call();
+                self.push(step);
+            }
+            2 | 3 => self.forge(),
+            4 => self.overwrite(),
+            5 => {
+                let length = self.rng.pick(&[0, 8, 26, 33, 35]);
+                let step = self.natural();
+                let old = self.now.state.clone();
+                self.push(Step::StateLength { length });
+                self.push(step);
+                self.push(Step::StateLength { length: State::NUMBERS });
+                for (place, value) in old.into_iter().enumerate().skip(length) {
+                    self.push(Step::Forge { place, value });
+                }
+            }
+            _ => {
+                let nw = self.state().map_or(16, |state| state.settings.nw as usize);
+                let length = 16 * nw + self.rng.pick(&[0, 0, 0, 3]) - self.rng.pick(&[0, 0, 0, 1]);
+                let samples = store(&mut self.rng, length);
+                self.push(Step::OtherStore { samples });
+            }
+        }
+    }
+
+    /// Any call at any time, its numbers often at or over an edge.
+    fn any_call(&mut self) -> Step {
+        let full = usize::MAX;
+        let rng = &mut self.rng;
+        let words = rng.pick(&[0, 1, 2, full, full]);
+        let store = rng.pick(&[0, self.now.store.len().saturating_sub(1), full, full]);
+        match rng.below(6) {
+            0 => {
+                let mut settings = good_settings(rng).encode().to_vec();
+                // Mostly refused: a set up that is accepted throws the block away.
+                if !rng.once_in(4) {
+                    spoil_settings(rng, &mut settings);
+                }
+                Step::SetUp { settings }
+            }
+            1 => {
+                let number = rng.pick(&[0, 1_023, 1_024, u32::MAX]);
+                Step::OpenBlock { words, number, events: rng.pick(&[0, 1, 255, 256, u32::MAX]) }
+            }
+            2 => {
+                let time = rng.pick(&[0, 7, (1 << 48) - 1, 1 << 48, u64::MAX]);
+                Step::OpenEvent { number: rng.pick(&[0, 4_194_303, 4_194_304, u32::MAX]), time }
+            }
+            3 => self.any_post(store),
+            4 => Step::Close { store, words },
+            _ => Step::Finish { words },
+        }
+    }
+
+    fn any_post(&mut self, store: usize) -> Step {
+        let nw = self.state().map_or(16, |state| state.settings.nw as usize);
+        let rng = &mut self.rng;
+        let length = rng.pick(&[nw, nw, nw, nw + 1, nw - 1, 0]);
+        let mut window = window(rng, length, 100);
+        if rng.once_in(4) && !window.is_empty() {
+            let place = rng.place(length);
+            window[place] = bad_sample(rng);
+        }
+        let channel = match rng.below(4) {
+            0 => rng.pick(&[16, 17, 32, 1 << 31, u32::MAX]),
+            _ => rng.below(16) as u32,
+        };
+        Step::Post { store, channel, window }
+    }
+
+    /// A number of the state altered before the next call, and mostly put back
+    /// when that was refused.
+    fn forge(&mut self) {
+        let step = self.natural();
+        let place = match self.rng.below(3) {
+            0 => self.rng.place(self.now.state.len()),
+            _ => self.rng.place(8),
+        };
+        let old = self.now.state.get(place).copied().unwrap_or(0);
+        let value = self.forged(place, old);
+        self.push(Step::Forge { place, value });
+        let answer = self.push(step);
+        if answer != 0 && !self.rng.once_in(8) {
+            self.push(Step::Forge { place, value: old });
+        }
+    }
+
+    fn forged(&mut self, place: usize, old: u64) -> u64 {
+        const EDGES: [&[u64]; 8] = [
+            &[0, 1, 2, 3],
+            &[0, 1_023, 1_024],
+            &[0, 1, 255, 256],
+            &[0, 4_194_303, 4_194_304],
+            &[0, (1 << 48) - 1, 1 << 48],
+            &[0, 1, 0xFFFF, 0x1_0000],
+            &[0, 1, 254, 255, 256],
+            &[0, 1, 2, 3],
+        ];
+        let closed = self.now.state.get(6).copied().unwrap_or(0);
+        match self.rng.below(4) {
+            // the bounds of the words written
+            0 | 1 if place == 7 => {
+                let state = self.state();
+                let times = state.as_ref().map_or(0, |state| u64::from(state.settings.times));
+                let header = state.map_or(1, |state| 1 + u64::from(state.settings.parameters));
+                let least = header.saturating_add(closed.saturating_mul(1 + times));
+                let most = closed.saturating_mul(12_051).saturating_add(2);
+                self.rng.pick(&[least - 1, least, most, most.saturating_add(1)])
+            }
+            0 | 1 if place < 8 => self.rng.pick(EDGES[place]),
+            2 => self.rng.pick(&[old.wrapping_add(1), old.wrapping_sub(1), old ^ 1]),
+            _ => {
+                self.rng.pick(&[old.wrapping_add(1 << 32), 1 << 32, u64::MAX, old.wrapping_add(2)])
+            }
+        }
+    }
+
+    /// Samples of the store overwritten between calls; a bad one mostly is put
+    /// right after the next call.
+    fn overwrite(&mut self) {
+        let place = self.rng.place(self.now.store.len());
+        let bad = self.rng.once_in(2);
+        let value = if bad { bad_sample(&mut self.rng) } else { self.rng.below(8_192) as u16 };
+        self.push(Step::Overwrite { place, value });
+        if bad {
+            let step = match self.rng.below(2) {
+                0 => Step::Close { store: usize::MAX, words: usize::MAX },
+                _ => self.natural(),
+            };
+            self.push(step);
+            if !self.rng.once_in(8) {
+                self.push(Step::Overwrite { place, value: 33 });
+            }
+        }
+    }
+}

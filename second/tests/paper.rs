@@ -1,0 +1,574 @@
+//! What document 01 says, run: run A, runs b to i, and refusals 1 to 16.
+
+use second::calls;
+use second::finder::{find, Pulse};
+use second::lister::list;
+use second::reader::{check, items, raw_part, words_of_bytes, Block, Item, Word, LIMIT};
+use second::refusal::Refusal;
+use second::settings::Settings;
+use second::words;
+use second::writer::{set_up, State};
+
+const RUN_A: [u16; 16] = [10, 11, 12, 11, 10, 40, 120, 200, 180, 90, 60, 30, 12, 11, 10, 11];
+const WORDS_A: [u32; 10] = [
+    0x81440101, 0x00500405, 0x91400009, 0x98000100, 0x00000000, 0xB98002BC, 0xC18001B4, 0xD180B0C8,
+    0x89400009, 0xF9400000,
+];
+const LINES_A: &str =
+    "block\t5\t1\t1\nsetup\t20\t2\t5\nevent\t9\nclock\t256\nintegral\t3\t0\t0\t700\n\
+                       time\t3\t0\t0\t6\t52\nped\t3\t0\t11\t200\nend\t9\nfill\t1\n";
+
+fn settings() -> Settings {
+    Settings {
+        mode: 7,
+        nw: 16,
+        pl: 20,
+        nsb: 2,
+        nsa: 5,
+        limit: 3,
+        slot: 5,
+        parameters: true,
+        times: 2,
+        multiple: 2,
+        thresholds: [100; 16],
+    }
+}
+
+fn settings_for(window: &[u16]) -> Settings {
+    Settings { nw: window.len() as u64, ..settings() }
+}
+
+fn pulses(settings: &Settings, window: &[u16]) -> Vec<Pulse> {
+    let settings = Settings { nw: window.len() as u64, ..settings.clone() };
+    find(&settings, 0, window).unwrap()
+}
+
+fn tcs(settings: &Settings, window: &[u16]) -> Vec<u32> {
+    pulses(settings, window).iter().map(|pulse| pulse.tc).collect()
+}
+
+/// A whole block of one event with this window in channel 3.
+fn block(settings: Settings, window: &[u16]) -> Vec<u32> {
+    let mut state = set_up(settings).unwrap();
+    let (mut store, mut words) = (vec![0; 16 * window.len()], vec![0; 13_000]);
+    state.open_block(&mut words, 1, 1).unwrap();
+    state.open_event(9, 256).unwrap();
+    state.post(&mut store, 3, window).unwrap();
+    state.close(&store, &mut words).unwrap();
+    let length = state.finish(&mut words).unwrap();
+    words.truncate(length as usize);
+    words
+}
+
+/// Only the words of channels, without headers, times and trailer.
+fn channel_words(settings: Settings, window: &[u16]) -> Vec<u32> {
+    let settings = Settings { parameters: false, times: 0, multiple: 1, ..settings };
+    let words = block(settings, window);
+    words[2..words.len() - 1].to_vec()
+}
+
+fn bytes(words: &[u32]) -> Vec<u8> {
+    words.iter().flat_map(|word| word.to_be_bytes()).collect()
+}
+
+fn refused(number: u64, place: u64) -> u64 {
+    (number << 32) + place
+}
+
+#[test]
+fn run_a() {
+    let found = find(&settings(), 3, &RUN_A).unwrap();
+    let expected = Pulse {
+        tc: 7,
+        first: 5,
+        last: 11,
+        sum: 700,
+        coarse: 6,
+        fine: 52,
+        vmin: 11,
+        vpeak: 200,
+        rule: 4,
+    };
+    assert_eq!(found, [expected]);
+    assert_eq!(block(settings(), &RUN_A), WORDS_A);
+    assert_eq!(list(&bytes(&WORDS_A)), LINES_A);
+    assert_eq!(check(&bytes(&WORDS_A)), 10);
+}
+
+#[test]
+fn run_b_threshold() {
+    assert!(pulses(&settings(), &[100]).is_empty());
+    assert_eq!(tcs(&settings(), &[101]), [1]);
+    assert!(pulses(&settings(), &[4_096 + 100]).is_empty(), "bit 12 is no amplitude");
+}
+
+#[test]
+fn runs_c_and_d_next_pulse() {
+    let window = [150, 50, 150, 50, 150];
+    assert_eq!(tcs(&Settings { nsa: 2, ..settings() }, &window), [1, 5]);
+    assert_eq!(tcs(&Settings { nsa: 1, ..settings() }, &window), [1, 3, 5]);
+    assert_eq!(tcs(&Settings { nsa: 1, limit: 2, ..settings() }, &window), [1, 3]);
+}
+
+#[test]
+fn run_e_set_starts_at_one() {
+    let found = pulses(&Settings { nsb: 3, ..settings() }, &[0, 150, 0, 0, 0, 0, 0, 0]);
+    assert_eq!((found[0].tc, found[0].first, found[0].last), (2, 1, 6));
+}
+
+#[test]
+fn run_f_late_crossing() {
+    for (tc, rule) in [(11, 4), (12, 2)] {
+        let mut window = [10; 16];
+        window[tc - 1] = 200;
+        let found = pulses(&settings(), &window);
+        assert_eq!((found[0].tc, found[0].rule), (tc as u32, rule));
+        assert_eq!((found[0].vmin, found[0].vpeak), (10, if rule == 4 { 200 } else { 0 }));
+    }
+}
+
+#[test]
+fn run_g_flat_tops() {
+    let flat = [10, 10, 10, 10, 50, 150, 200, 200, 200, 200, 200, 200];
+    let found = pulses(&settings(), &flat)[0];
+    assert_eq!((found.coarse, found.fine), (6, 0));
+    assert_eq!((found.vmin, found.vpeak, found.rule), (10, 0, 3));
+    let falls = [10, 10, 10, 10, 50, 150, 200, 200, 180, 200, 300, 200];
+    let found = pulses(&settings(), &falls)[0];
+    assert_eq!((found.vpeak, found.coarse, found.fine), (200, 5, 35));
+}
+
+#[test]
+fn run_h_cap() {
+    let settings = Settings { nsa: 511, mode: 3, ..settings() };
+    for (count, sum, written, quality) in [(128, 524_160, 524_160, 0), (129, 528_255, 524_287, 1)] {
+        let window = vec![4_095; count];
+        assert_eq!(pulses(&settings, &window)[0].sum, sum);
+        let words = channel_words(Settings { nw: count as u64, ..settings.clone() }, &window);
+        assert_eq!(words[0], 0xB9800000 | quality << 19 | written);
+        assert_eq!(words[1], 0xC1800000 | 1 << 6, "mode 3: TC and fine 0");
+    }
+}
+
+#[test]
+fn run_i_vmin_cut_in_the_word_only() {
+    for vmin in [511, 512] {
+        let window = [vmin, vmin, vmin, vmin, vmin, 900, 1_000, 900, 600, 600, 600, 600];
+        let s = Settings { mode: 4, thresholds: [700; 16], ..settings_for(&window) };
+        let pulse = find(&s, 3, &window).unwrap()[0];
+        assert_eq!((pulse.vmin, pulse.vpeak, pulse.rule), (vmin.into(), 1_000, 4));
+        let words = channel_words(s, &window);
+        assert_eq!(words[1], 0xD1800000 | 511 << 12 | 1_000);
+    }
+    // VMID with the VMIN that was measured, not with 511: (1,003 + 1,000) / 2.
+    let window = [1_000, 1_000, 1_000, 1_000, 1_000, 1_003, 1_002, 0, 0, 0, 0];
+    let s = Settings { thresholds: [1_000; 16], ..settings() };
+    assert_eq!((pulses(&s, &window)[0].coarse, pulses(&s, &window)[0].fine), (5, 64 / 3));
+}
+
+#[test]
+fn easy_mistakes() {
+    // A second pulse gets its own edge, not the first one's.
+    let window = [0, 0, 0, 0, 0, 200, 0, 0, 0, 0, 200, 0, 0, 0, 0, 0];
+    let s = Settings { nsa: 2, ..settings() };
+    let found = pulses(&s, &window);
+    assert_eq!(found.iter().map(|p| p.coarse).collect::<Vec<_>>(), [5, 10]);
+    // Sample s starts no pulse, over or not.
+    assert_eq!(tcs(&Settings { nsa: 2, ..settings() }, &[150, 0, 150, 150, 0, 150]), [1, 6]);
+    // The peak is the value before the first fall, not the greatest of the set.
+    let window = [0, 0, 0, 0, 150, 140, 900, 0, 0, 0, 0, 0];
+    assert_eq!(pulses(&settings(), &window)[0].vpeak, 150);
+    // The search for the peak goes on past the data set.
+    let window = [0, 0, 0, 0, 110, 120, 130, 140, 150, 160, 150, 0];
+    assert_eq!(pulses(&Settings { nsa: 1, ..settings() }, &window)[0].vpeak, 160);
+}
+
+#[test]
+fn rule_one() {
+    for window in [&[0, 0, 150][..], &[0, 0, 0, 150, 0, 0, 0, 0, 0, 0]] {
+        let found = pulses(&settings(), window)[0];
+        assert_eq!(
+            (found.coarse, found.fine, found.vmin, found.vpeak, found.rule),
+            (found.tc, 0, 0, 0, 1)
+        );
+    }
+}
+
+#[test]
+fn old_rows_are_not_read() {
+    let mut state = set_up(settings()).unwrap();
+    let (mut store, mut words) = (vec![u16::MAX; 256], vec![7; 64]);
+    state.open_block(&mut words, 1, 2).unwrap();
+    for event in 0..2 {
+        state.open_event(event, 0).unwrap();
+        if event == 0 {
+            state.post(&mut store, 3, &RUN_A).unwrap();
+        }
+        state.close(&store, &mut words).unwrap();
+    }
+    assert_eq!(&store[48..64], &RUN_A);
+    assert!(store[..48].iter().chain(&store[64..]).all(|&sample| sample == u16::MAX));
+    assert_eq!(state.words, 2 + 6 + 3);
+    assert!(words[11..].iter().all(|&word| word == 7));
+}
+
+#[test]
+fn modes_and_odd_windows() {
+    let with_flag: u16 = 0x1000 | 150;
+    let window = [10, 10, 10, 10, with_flag, 20, 20, 20, 20, 20, 20];
+    let s = |mode| Settings { mode, nsa: 1, ..settings_for(&window) };
+    let one = channel_words(s(1), &window);
+    assert_eq!(one[0], 0xA180000B);
+    assert_eq!(one[3], 0x10960014, "raw words carry bit 12");
+    assert_eq!((one.len(), one[6]), (7, 20 << 16 | 1 << 13));
+    // NSB 2, NSA 1: samples 3 to 5, an odd count
+    let two = channel_words(s(2), &window);
+    assert_eq!(two, [0xB1800005, 10 << 16 | 10, u32::from(with_flag) << 16 | 1 << 13]);
+    let four = channel_words(s(4), &window);
+    assert_eq!(four, [0xC1800000 | 4 << 6 | 32, 0xD1800000 | 10 << 12 | 150]);
+    assert_eq!(channel_words(s(8), &window), [one, four].concat());
+    assert_eq!(channel_words(s(3), &window), [0xB9800000 | 170, 0xC1800000 | 5 << 6]);
+    assert!(channel_words(s(1), &[0; 11]).is_empty());
+    for mode in [1, 2, 3, 4, 7, 8] {
+        let words = block(s(mode), &window);
+        assert_eq!(check(&bytes(&words)), words.len() as u64);
+    }
+}
+
+#[test]
+fn limits_of_the_window() {
+    let least = channel_words(Settings { mode: 8, ..settings_for(&[101]) }, &[101]);
+    assert_eq!(least, [0xA1800001, 101 << 16 | 1 << 13, 0xC1800000 | 1 << 6, 0xD1800000]);
+    let full = vec![4_095; 500];
+    assert_eq!(channel_words(Settings { mode: 1, ..settings_for(&full) }, &full).len(), 251);
+    // Three sets at their longest end at 496, 498 and 500, since a next TC lies
+    // at least two after the last set's end: 750 words, within the paper's 753.
+    let mut window = vec![0; 500];
+    for tc in [496, 498, 500] {
+        window[tc - 1] = 300;
+    }
+    let s = Settings { mode: 2, nsb: 511, nsa: 1, ..settings_for(&window) };
+    let words = channel_words(s.clone(), &window);
+    assert_eq!(words.len(), 249 + 250 + 251);
+    // All sixteen channels of that kind, three times, are within the state's range.
+    let mut state = set_up(Settings { times: 2, ..s }).unwrap();
+    let (mut store, mut words) = (vec![0; 8_000], vec![0; 40_000]);
+    state.open_block(&mut words, 1_023, 3).unwrap();
+    for event in 0..3 {
+        state.open_event(event, (1 << 48) - 1).unwrap();
+        (0..16).for_each(|channel| state.post(&mut store, channel, &window).unwrap());
+        state.close(&store, &mut words).unwrap();
+    }
+    assert_eq!(state.finish(&mut words), Ok(2 + 3 * 12_003 + 1));
+}
+
+#[test]
+fn filler_multiples() {
+    for (multiple, length) in [(1, 9), (2, 10), (4, 12)] {
+        let words = block(Settings { multiple, ..settings() }, &RUN_A);
+        assert_eq!(words.len(), length);
+        assert_eq!(words[8], 0x89400009, "the trailer does not count fillers");
+        assert!(words[9..].iter().all(|&word| word == 0xF9400000));
+        assert_eq!(check(&bytes(&words)), length as u64);
+    }
+    // A block that is a multiple already gets none.
+    assert_eq!(block(Settings { multiple: 4, times: 1, ..settings() }, &RUN_A).len(), 8);
+}
+
+#[test]
+fn type_six_with_a_flagged_pair() {
+    let block = |pairs: &[u32]| {
+        let mut words = vec![words::block_header(5, 0, 1), words::event_header(5, 0)];
+        words.push(words::pulse_raw(15, 3, 1_023));
+        words.extend(pairs);
+        words.push(words::trailer(5, words.len() as u32 + 1));
+        words
+    };
+    let flagged = 1 << 16 | 1 << 13;
+    let good = block(&[5, flagged]);
+    assert_eq!(check(&bytes(&good)), 6);
+    assert!(list(&bytes(&good)).contains("pulse\t15\t3\t1023\npair\t0\t5\npair\t1\t-\nend\t6\n"));
+    assert_eq!(check(&bytes(&block(&[5, flagged, 5]))), refused(12, 5));
+    assert_eq!(check(&bytes(&block(&[5, flagged | 1]))), refused(13, 4));
+    assert_eq!(check(&bytes(&block(&[5 | 1 << 29]))), refused(13, 3));
+    assert_eq!(check(&bytes(&block(&[5 | 1 << 14]))), refused(13, 3));
+    assert_eq!(check(&bytes(&block(&[]))), refused(12, 3));
+    assert_eq!(check(&bytes(&block(&[5; 250]))), 254);
+    assert_eq!(check(&bytes(&block(&[5; 251]))), refused(12, 253));
+    let accepted: Vec<Word> = Block::new(&good).map(Result::unwrap).collect();
+    let raw =
+        Item::Raw { head: Word::PulseRaw { channel: 15, pulse: 3, tc: 1_023 }, place: 3, pairs: 2 };
+    assert_eq!(items(&accepted)[2], raw);
+    assert_eq!(raw_part(&good, 3, 2), [5, flagged]);
+    assert!(raw_part(&good, 5, 2).is_empty() && raw_part(&good, usize::MAX, 2).is_empty());
+}
+
+#[test]
+fn type_four_pairs() {
+    let block = |width: u32, pairs: &[u32]| {
+        let mut words = vec![words::block_header(5, 0, 1), words::event_header(5, 0)];
+        words.push(words::window(1, width));
+        words.extend(pairs);
+        words.push(words::trailer(5, words.len() as u32 + 1));
+        check(&bytes(&words))
+    };
+    let flag = 1 << 13;
+    assert_eq!(block(3, &[5, flag]), 6);
+    assert_eq!(block(3, &[5, 5]), refused(13, 4), "flag absent at the odd end");
+    assert_eq!(block(4, &[5, flag]), refused(13, 4), "flag at an even end");
+    assert_eq!(block(3, &[flag, flag]), refused(13, 3), "flag before the end");
+    assert_eq!(block(3, &[5]), refused(12, 4));
+    assert_eq!(block(3, &[5, flag, 5]), refused(12, 5));
+    assert_eq!(block(0, &[]), refused(13, 2));
+    assert_eq!(block(501, &[5; 251]), refused(13, 2));
+    assert_eq!(block(500, &[5; 250]), 254);
+}
+
+#[test]
+fn refusal_1_settings() {
+    let good = settings().encode();
+    let bad: [(usize, &[u64]); 11] = [
+        (0, &[0, 5, 6, 9]),
+        (1, &[0, 501]),
+        (2, &[2_048]),
+        (3, &[512]),
+        (4, &[0, 512]),
+        (5, &[0, 4]),
+        (6, &[32]),
+        (7, &[2]),
+        (8, &[3]),
+        (9, &[0, 3, 5]),
+        (25, &[4_096, 1 << 32]),
+    ];
+    let mut state = [9; 34];
+    for (place, values) in bad {
+        for &value in values {
+            let mut numbers = good;
+            numbers[place] = value;
+            assert_eq!(calls::set_up(&numbers, &mut state), 1);
+            assert_eq!(calls::find(&numbers, 99, &[], &mut []), 1);
+            numbers[place] = good[place] + (1 << 32);
+            assert_eq!(calls::set_up(&numbers, &mut state), 1);
+        }
+    }
+    assert_eq!(calls::set_up(&good[..25], &mut state), 1);
+    assert_eq!(calls::set_up(&[], &mut []), 1);
+    assert_eq!(state, [9; 34]);
+    assert_eq!(calls::set_up(&good, &mut [0; 33]), 10);
+    assert_eq!(calls::set_up(&good, &mut state), 0);
+}
+
+#[test]
+fn refusals_of_the_finder_in_order() {
+    let bad = [u16::MAX; 3];
+    assert_eq!(find(&settings(), 16, &bad), Err(Refusal::Channel));
+    assert_eq!(find(&settings(), 15, &bad), Err(Refusal::WindowLength));
+    assert_eq!(find(&settings(), 15, &[8_192; 16]), Err(Refusal::Sample));
+    let mut out = [5; 30];
+    assert_eq!(calls::find(&settings().encode(), 3, &RUN_A, &mut out[..27]), 9);
+    assert_eq!(out, [5; 30]);
+    assert_eq!(calls::find(&settings().encode(), 3, &RUN_A, &mut out), 0);
+    assert_eq!(out[..11], [1, 7, 5, 11, 700, 6, 52, 11, 200, 4, 0]);
+    assert_eq!(out[11..], [vec![0; 17], vec![5; 2]].concat());
+}
+
+/// A state in an event, with channel 3 posted, as numbers.
+fn in_event() -> (Vec<u64>, Vec<u16>, Vec<u32>) {
+    let (mut state, mut store, mut words) = (vec![0; 34], vec![0; 256], vec![0; 64]);
+    assert_eq!(calls::set_up(&settings().encode(), &mut state), 0);
+    assert_eq!(calls::open_block(&mut state, &mut words, 1, 1), 0);
+    assert_eq!(calls::open_event(&mut state, 9, 256), 0);
+    assert_eq!(calls::post(&mut state, &mut store, 3, &RUN_A), 0);
+    (state, store, words)
+}
+
+#[test]
+fn refusals_2_to_6_and_9_in_order() {
+    let (mut state, mut store, mut words) = in_event();
+    let before = (state.clone(), store.clone(), words.clone());
+    assert_eq!(calls::post(&mut state, &mut [], 16, &[]), 4);
+    assert_eq!(calls::post(&mut state, &mut [], 3, &[]), 5);
+    assert_eq!(calls::post(&mut state, &mut [], 3, &[u16::MAX; 16]), 6);
+    assert_eq!(calls::post(&mut state, &mut store[..255], 4, &[u16::MAX; 16]), 2);
+    assert_eq!(calls::post(&mut state, &mut store, 4, &[u16::MAX; 16]), 3);
+    assert_eq!(calls::close(&mut state, &store[..255], &mut []), 2);
+    assert_eq!(calls::close(&mut state, &[8_192; 256], &mut []), 3);
+    assert_eq!(calls::close(&mut state, &store, &mut words[..7]), 9);
+    assert_eq!((state.clone(), store.clone(), words.clone()), before);
+    assert_eq!(calls::close(&mut state, &store, &mut words[..8]), 0);
+    assert_eq!(calls::finish(&mut state, &mut words[..9]), refused(9, 0));
+    assert_eq!(calls::finish(&mut state, &mut words[..10]), 10);
+    assert_eq!(words[..10], WORDS_A);
+    assert_eq!(calls::open_block(&mut state, &mut words[..1], 1, 1), 9);
+}
+
+#[test]
+fn refusals_7_and_8() {
+    let (mut state, mut store, mut words) = in_event();
+    assert_eq!(calls::open_block(&mut state, &mut [], 1_024, 0), 7);
+    assert_eq!(calls::open_event(&mut state, u32::MAX, 0), 7);
+    assert_eq!(calls::finish(&mut state, &mut words), refused(7, 0));
+    assert_eq!(calls::close(&mut state, &store, &mut words), 0);
+    assert_eq!(calls::open_event(&mut state, 1, 1), 7, "beyond the block's count");
+    assert_eq!(calls::post(&mut state, &mut store, 16, &[]), 7);
+    assert_eq!(calls::close(&mut state, &[], &mut []), 7);
+    assert_eq!(calls::finish(&mut state, &mut words), 10);
+    for (number, events) in [(1_024, 1), (0, 0), (0, 256)] {
+        assert_eq!(calls::open_block(&mut state, &mut [], number, events), 8);
+    }
+    assert_eq!(calls::open_block(&mut state, &mut words, 1_023, 255), 0);
+    assert_eq!(calls::finish(&mut state, &mut words), refused(7, 0), "before the count");
+    assert_eq!(calls::open_event(&mut state, 4_194_304, 0), 8);
+    assert_eq!(calls::open_event(&mut state, 0, 1 << 48), 8);
+    assert_eq!(calls::open_event(&mut state, 4_194_303, (1 << 48) - 1), 0);
+}
+
+#[test]
+fn refusal_10_forged_states() {
+    let (good, store, mut words) = in_event();
+    let mut forge = |change: &[(usize, u64)]| {
+        let mut state = good.clone();
+        change.iter().for_each(|&(place, value)| state[place] = value);
+        calls::close(&mut state, &store, &mut words)
+    };
+    // phase, block number, events, event, time, marks, closed, words, settings
+    let bad = [
+        (0, 0),
+        (0, 1),
+        (0, 3),
+        (1, 1_024),
+        (2, 0),
+        (2, 256),
+        (3, 4_194_304),
+        (4, 1 << 48),
+        (5, 1 << 16),
+        (6, 1),
+        (7, 1),
+        (7, 3),
+        (7, u64::MAX),
+        (8, 5),
+        (9, 501),
+        (15, 2),
+        (33, 4_096),
+        (1, 1 << 32),
+        (6, 1 << 32),
+        (33, 1 << 32),
+    ];
+    for change in bad {
+        assert_eq!(forge(&[change]), 10, "{change:?}");
+    }
+    // Events closed 1 of 2: 2 + 3 words at least, 2 + 12,051 at most.
+    for (words_written, answer) in [(4, 10), (5, 0), (12_053, 9), (12_054, 10)] {
+        assert_eq!(forge(&[(2, 2), (6, 1), (7, words_written)]), answer);
+    }
+    assert_eq!(forge(&[(15, 0), (7, 1)]), 0);
+    assert_eq!(calls::open_event(&mut [0; 33], 0, 0), 10);
+    assert_eq!(calls::open_event(&mut [0; 34], 0, 0), 10);
+    let idle = set_up(settings()).unwrap();
+    for place in 1..8 {
+        let mut numbers = idle.encode();
+        numbers[place] = 1;
+        assert_eq!(calls::open_block(&mut numbers, &mut [0; 9], 1, 1), 10);
+    }
+    assert_eq!(State::decode(&good).map(|state| state.encode().to_vec()), Some(good));
+}
+
+/// The answer for run A's block with one word changed.
+fn changed(place: usize, word: u32) -> u64 {
+    let mut words = WORDS_A;
+    words[place] = word;
+    check(&bytes(&words))
+}
+
+#[test]
+fn refusals_11_to_15() {
+    for end in 0..9 {
+        assert_eq!(check(&bytes(&WORDS_A[..end])), refused(11, end as u64));
+    }
+    assert_eq!(check(&bytes(&WORDS_A[..9])), 9);
+    assert_eq!(changed(0, 0x01440101), refused(12, 0));
+    assert_eq!(changed(0, 0xF9400000), refused(12, 0));
+    assert_eq!(changed(0, 0x81480101), refused(13, 0), "module 2");
+    assert_eq!(changed(0, 0x81440100), refused(13, 0), "events 0");
+    assert_eq!(changed(0, 0x81440102), refused(14, 8), "trailer before the events");
+    assert_eq!(changed(0, 0x81040101), refused(15, 2));
+    assert_eq!(changed(1, 0x20500405), refused(13, 1));
+    assert_eq!(changed(1, 0x89400002), refused(14, 1), "trailer where an event may begin");
+    assert_eq!(changed(1, 0x89000002), refused(15, 1), "15 before 14");
+    assert_eq!(changed(1, 0xB9800000), refused(12, 1));
+    assert_eq!(changed(4, 0x01000000), refused(13, 4));
+    assert_eq!(changed(4, 0x00000001), refused(13, 4), "time bits 26-24 unequal");
+    assert_eq!(changed(4, 0x00FFFFF8), 10);
+    assert_eq!(changed(4, 0x98000000), refused(12, 4));
+    assert_eq!(changed(5, 0x00000000), refused(12, 5));
+    assert_eq!(changed(5, 0xE0000000), refused(12, 5), "type 12");
+    assert_eq!(changed(5, 0x91400009), refused(14, 5), "event beyond the stated");
+    assert_eq!(changed(6, 0xC18081B4), refused(13, 6));
+    assert_eq!(changed(8, 0x8940000A), refused(14, 8));
+    assert_eq!(changed(9, 0xF9FFFFFF), refused(15, 9));
+    assert_eq!(changed(9, 0xF97FFFFF), 10, "undefined bits");
+    assert_eq!(changed(9, 0x00000000), 9, "the block ends before a word that is no filler");
+    let fillers = [&WORDS_A[..9], &[0xF9400000; 4]].concat();
+    assert_eq!(check(&bytes(&fillers)), 12);
+    assert_eq!(check(&bytes(&[0xF17FFFFF, 0])), 1);
+    assert_eq!(check(&[]), refused(11, 0));
+}
+
+#[test]
+fn refusal_14_at_the_limit() {
+    let answers: Vec<u64> = second::cases::limit_cases().map(|case| check(&case.bytes)).collect();
+    let limit = LIMIT as u64;
+    assert_eq!(answers, [limit, refused(14, limit), refused(14, limit), refused(11, limit - 1)]);
+}
+
+#[test]
+fn refusal_16_and_the_lister() {
+    let good = bytes(&WORDS_A);
+    assert_eq!(check(&good[..39]), refused(16, 0));
+    assert_eq!(list(&good[..39]), "refused\t16\t0\n");
+    assert_eq!(words_of_bytes(&good[..5]), None);
+    assert_eq!(list(&[]), "");
+    assert_eq!(list(&vec![0; 65_540]), "refused\t16\t0\n");
+    assert_eq!(list(&vec![0; 65_536]), "refused\t12\t0\n");
+    let empties = bytes(&[0xF17FFFFF; 16_384]);
+    assert_eq!(list(&empties), "empty\t5\n".repeat(16_384));
+    assert_eq!(list(&[&good[..], &good[..]].concat()), LINES_A.repeat(2));
+    // A time whose second word is refused stands as if the input ended there.
+    let mut words = WORDS_A;
+    words[4] = 1;
+    assert_eq!(
+        list(&bytes(&words)),
+        "block\t5\t1\t1\nsetup\t20\t2\t5\nevent\t9\nclock27\t256\nrefused\t13\t4\n"
+    );
+    let other_slot = [&WORDS_A[..], &[0xF9000000]].concat();
+    assert_eq!(list(&bytes(&other_slot)), format!("{LINES_A}refused\t15\t10\n"));
+    let fourth = [&WORDS_A[..9], &[0xF9400000; 4]].concat();
+    assert!(list(&bytes(&fourth)).ends_with("end\t9\nfill\t3\nrefused\t12\t0\n"));
+}
+
+/// The command line, fed `input`.
+fn run(command: &str, input: &[u8]) -> String {
+    use std::io::Write;
+    use std::process::{Command, Stdio};
+    let mut child = Command::new(env!("CARGO_BIN_EXE_second"))
+        .arg(command)
+        .stdin(Stdio::piped())
+        .stdout(Stdio::piped())
+        .spawn()
+        .unwrap();
+    // The lister may stop reading an input that is too long.
+    let _ = child.stdin.take().unwrap().write_all(input);
+    String::from_utf8(child.wait_with_output().unwrap().stdout).unwrap()
+}
+
+#[test]
+fn command_line() {
+    let good = bytes(&WORDS_A);
+    assert_eq!(run("list", &good), LINES_A);
+    assert_eq!(run("list", &[0; 65_537]), "refused\t16\t0\n");
+    assert_eq!(run("list", &[]), "");
+    assert_eq!(run("check", &good), "10\n");
+    assert_eq!(run("check", &good[..4]), format!("{}\n", refused(11, 1)));
+    let hex: Vec<String> = WORDS_A.iter().map(|word| format!("{word:08X}")).collect();
+    assert_eq!(run("demo", &[]), format!("{}\n{LINES_A}", hex.join(" ")));
+}
