@@ -1,8 +1,6 @@
 //! Runs the library and the second program on the same cases and stops at the first difference.
 
-mod library;
-
-use library::Library;
+use comparison::Library;
 use second::cases::{
     every_cut, every_flip, limit_cases, FinderCase, ReaderCase, Second, SequenceCase, Side, Step,
     SEED,
