@@ -21,7 +21,7 @@ use Rattle.items.specs.declared.Item.{Item}
 use Rattle.items.specs.declared.Item.the-variants as I
 use Rattle.reader.specs.declared.Scan.{Scan}
 use Rattle.reader.specs.declared.Step.the-variants as S
-use Rattle.reader.specs.Reader.{then, Whole, startOf, formFor, formAt, isNo, isEnd, atLimit, refusalOf, after, stepAt, withItem, endOf, readFrom}
+use Rattle.reader.specs.Reader.{then, Whole, startOf, formFor, formAt, isNo, isEnd, atLimit, refusalOf, after, stepAt, endOf, readFrom}
 use Rattle.reader.specs.declared.Judged.the-variants as J
 use Rattle.reader.specs.ReaderLaws.{judge-by}
 use Rattle.reader.specs.RunLaws.{read-at}
@@ -31,16 +31,16 @@ use Rattle.claims.specs.Layout.{Stands, Follow, IsBlock}
 -- ---- one record's word
 
 -- the word says the record's form, its fixed bits, and the record
-record Says (x : Item) (w : ℕ) : Type 0 where
-  bit : read 31 31 w ≡ bitOf (formOf x)
-  type : bitOf (formOf x) ≡ 1 → read 30 27 w ≡ typeOf (formOf x)
-  fixed : fixedIn (formOf x) w ≡ true
-  item : itemFrom (formOf x) w ≡ x
+pub record Says (x : Item) (w : ℕ) : Type 0 where
+  pub bit : read 31 31 w ≡ bitOf (formOf x)
+  pub type : bitOf (formOf x) ≡ 1 → read 30 27 w ≡ typeOf (formOf x)
+  pub fixed : fixedIn (formOf x) w ≡ true
+  pub item : itemFrom (formOf x) w ≡ x
 
 no-type : {A : Type 0} → _≡_ {A = ℕ} 0 1 → A
 no-type e = absurd (omega arith)
 
-says : (x : Item) → fits x ≡ true → Says x (wordOf x)
+pub says : (x : Item) → fits x ≡ true → Says x (wordOf x)
 unfolding fits wordOf W.blockHeader W.blockHeaderFixed W.parameters W.parametersFixed W.trailer W.eventHeader W.triggerTime W.triggerTimeHigh W.triggerTimeHighFixed W.empty W.filler R.window R.windowFixed R.pulseRaw R.pulseRawFixed R.pair R.pairFixed M.integral M.time M.timeFixed M.pedestal
 says (I.Block r) h =
     record {
@@ -171,18 +171,14 @@ real (I.Pedestal r) = (refl, refl)
 real (I.Empty r) = (refl, refl)
 real (I.Filler r) = (refl, refl)
 
-step-there : (s : Scan) (x : Item) → Stands s x → stepAt s (wordOf x) ≡ S.Went (formOf x) (after s x)
+step-there : (s : Scan) (x : Item) (w : ℕ) → Says x w → Stands s x → stepAt s w ≡ S.Went (formOf x) (after s x)
 unfolding stepAt refusalOf firstOf
-step-there s x h =
-    let a : Says x (wordOf x) = says x (h .widths) in
-    rw (form-of s x (wordOf x) a (h .type), a .item, a .fixed, h .limit, h .slot, h .fields, h .count, real x .0, real x .1)
+step-there s x w a h = rw (form-of s x w a (h .type), a .item, a .fixed, h .limit, h .slot, h .fields, h .count, real x .0, real x .1)
 
 -- ---- all records
 
-read-step : (s : Scan) (x : Item) (words : List ℕ) → Stands s x → readFrom s (wordOf x ∷ words) ≡ then x (readFrom (after s x) words)
-read-step s x words h =
-    let i : withItem (wordOf x) (S.Went (formOf x) (after s x)) ≡ J.Took x (after s x) = ap (λ (y : Item). J.Took y (after s x)) (says x (h .widths) .item) in
-    read-at s (wordOf x) words (judge-by s (wordOf x) (step-there s x h) ∙ i)
+pub read-step : (s : Scan) (x : Item) (w : ℕ) (words : List ℕ) → Says x w → Stands s x → readFrom s (w ∷ words) ≡ then x (readFrom (after s x) words)
+read-step s x w words a h = read-at s w words (judge-by s w (step-there s x w a h) ∙ ap (λ (y : Item). J.Took y (after s x)) (a .item))
 
 -- where the reading stands behind the records
 abbrev pub behind : Scan → List Item → Scan
@@ -192,7 +188,7 @@ behind s (x ∷ xs) = behind (after s x) xs
 read-there : (s : Scan) (xs : List Item) → Follow s xs → readFrom s (wordsOf xs) ≡ record { items = xs; out = Whole (behind s xs .place) }
 unfolding readFrom endOf atLimit
 read-there s [] h = rw h
-read-there s (x ∷ xs) h = read-step s x (wordsOf xs) (h .0) ∙ ap (then x) (read-there (after s x) xs (h .1))
+read-there s (x ∷ xs) h = read-step s x (wordOf x) (wordsOf xs) (says x (h .0 .widths)) (h .0) ∙ ap (then x) (read-there (after s x) xs (h .1))
 
 -- a block of records, written, is read back record by record, to its last word
 pub round-trip : (xs : List Item) → IsBlock xs → readFrom startOf (wordsOf xs) ≡ record { items = xs; out = Whole (length xs) }

@@ -13,3 +13,4 @@ pub mod PassLaws
 pub mod WrittenLaws
 pub mod Run
 pub mod RunLaws
+pub mod ExactLaws
