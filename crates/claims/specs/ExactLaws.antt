@@ -7,7 +7,6 @@ use native.Mathlib.Omega.{arith}
 use lib.ListN.{length}
 use Rattle.fields.specs.Word.{fieldAt, read}
 use Rattle.frame.specs.Words.{emptyOf, fillerOf}
-use Rattle.frame.specs.declared.filler.Filler.{Filler}
 use Rattle.items.specs.Items.{wordOf, fits, formOf, cleanOf}
 use Rattle.items.specs.declared.Item.{Item}
 use Rattle.items.specs.declared.Item.the-variants as I
