@@ -1,15 +1,16 @@
 -- Demand 2: "reading back a block .. gives every field as written". Records that stand as the layout asks are read back as they were written.
 -- Assumes nothing.
 use Prim.Native.Nat.{ℕ, zero, suc, _<_}
-use mathlib.Core.Path.{_≡_, refl, ap, _∙_}
+use mathlib.Core.Path.{_≡_, refl, sym, ap, _∙_}
 use mathlib.Core.Bool.{true, false, _&&_}
 use mathlib.Core.List.{List, [], _∷_}
 use native.Mathlib.Omega.{arith}
-use lib.Dec.{eqb}
-use lib.ListN.{length, getD}
+use lib.Dec.{T, eqb}
+use lib.ListN.{length, getD, drop}
 use Rattle.ground.specs.Tests.{firstOf}
-use Rattle.fields.specs.Word.{read}
-use Rattle.fields.specs.WordLaws.{taken, true-T, field-lt}
+use Rattle.fields.specs.Word.{Field, read, pack, fit}
+use Rattle.fields.specs.Tag.{defining, continuation}
+use Rattle.fields.specs.WordLaws.{tiles, taken, true-T, field-lt}
 use Rattle.frame.specs.Words as W
 use Rattle.frame.specs.WordsLaws.{blockHeader-there, parameters-there, trailer-there, eventHeader-there, triggerTime-there, triggerTimeHigh-there, empty-there, filler-there}
 use Rattle.raw.specs.Words as R
@@ -37,109 +38,38 @@ pub record Says (x : Item) (w : ℕ) : Type 0 where
   pub fixed : fixedIn (formOf x) w ≡ true
   pub item : itemFrom (formOf x) w ≡ x
 
-no-type : {A : Type 0} → _≡_ {A = ℕ} 0 1 → A
-no-type e = absurd (omega arith)
+-- a defining word, and a continuation, of any layout
+by-type : (x : Item) (type : ℕ) (fs : List Field) → T (tiles 32 (defining type fs)) → fit (defining type fs) ≡ true → bitOf (formOf x) ≡ 1 → typeOf (formOf x) ≡ type
+    → fixedIn (formOf x) (pack (defining type fs)) ≡ true → itemFrom (formOf x) (pack (defining type fs)) ≡ x → Says x (pack (defining type fs))
+by-type x type fs t h b k z i =
+    record {
+      bit = taken (defining type fs) (λ vs. getD vs 0 0) refl t (true-T h) ∙ sym b;
+      type = λ q. taken (defining type fs) (λ vs. getD vs 1 0) refl t (true-T h) ∙ sym k;
+      fixed = z;
+      item = i;
+    }
+
+by-bit : (x : Item) (fs : List Field) → T (tiles 32 (continuation fs)) → fit (continuation fs) ≡ true → bitOf (formOf x) ≡ 0 → fixedIn (formOf x) (pack (continuation fs)) ≡ true
+    → itemFrom (formOf x) (pack (continuation fs)) ≡ x → Says x (pack (continuation fs))
+by-bit x fs t h b z i =
+    record { bit = taken (continuation fs) (λ vs. getD vs 0 0) refl t (true-T h) ∙ sym b; type = λ q. absurd (omega (arith, b, q)); fixed = z; item = i }
 
 pub says : (x : Item) → fits x ≡ true → Says x (wordOf x)
 unfolding fits wordOf W.blockHeader W.blockHeaderFixed W.parameters W.parametersFixed W.trailer W.eventHeader W.triggerTime W.triggerTimeHigh W.triggerTimeHighFixed W.empty W.filler R.window R.windowFixed R.pulseRaw R.pulseRawFixed R.pair R.pairFixed M.integral M.time M.timeFixed M.pedestal
-says (I.Block r) h =
-    record {
-      bit = taken (W.blockHeader r) (λ vs. getD vs 0 0) refl tt (true-T h);
-      type = λ q. taken (W.blockHeader r) (λ vs. getD vs 1 0) refl tt (true-T h);
-      fixed = taken (W.blockHeader r) (λ vs. eqb (getD vs 3 0) 1) refl tt (true-T h);
-      item = ap I.Block (blockHeader-there r h);
-    }
-says (I.Parameters r) h =
-    record {
-      bit = taken (W.parameters r) (λ vs. getD vs 0 0) refl tt (true-T h);
-      type = no-type;
-      fixed = taken (W.parameters r) (λ vs. eqb (getD vs 1 0) 0) refl tt (true-T h);
-      item = ap I.Parameters (parameters-there r h);
-    }
-says (I.Trailer r) h =
-    record {
-      bit = taken (W.trailer r) (λ vs. getD vs 0 0) refl tt (true-T h);
-      type = λ q. taken (W.trailer r) (λ vs. getD vs 1 0) refl tt (true-T h);
-      fixed = refl;
-      item = ap I.Trailer (trailer-there r h);
-    }
-says (I.Event r) h =
-    record {
-      bit = taken (W.eventHeader r) (λ vs. getD vs 0 0) refl tt (true-T h);
-      type = λ q. taken (W.eventHeader r) (λ vs. getD vs 1 0) refl tt (true-T h);
-      fixed = refl;
-      item = ap I.Event (eventHeader-there r h);
-    }
-says (I.Clock r) h =
-    record {
-      bit = taken (W.triggerTime r) (λ vs. getD vs 0 0) refl tt (true-T h);
-      type = λ q. taken (W.triggerTime r) (λ vs. getD vs 1 0) refl tt (true-T h);
-      fixed = refl;
-      item = ap I.Clock (triggerTime-there r h);
-    }
-says (I.ClockHigh r) h =
-    record {
-      bit = taken (W.triggerTimeHigh r) (λ vs. getD vs 0 0) refl tt (true-T h);
-      type = no-type;
-      fixed = taken (W.triggerTimeHigh r) (λ vs. eqb (getD vs 1 0) 0) refl tt (true-T h);
-      item = ap I.ClockHigh (triggerTimeHigh-there r h);
-    }
-says (I.Window r) h =
-    record {
-      bit = taken (R.window r) (λ vs. getD vs 0 0) refl tt (true-T h);
-      type = λ q. taken (R.window r) (λ vs. getD vs 1 0) refl tt (true-T h);
-      fixed = taken (R.window r) (λ vs. eqb (getD vs 3 0) 0) refl tt (true-T h);
-      item = ap I.Window (window-there r h);
-    }
-says (I.Raw r) h =
-    record {
-      bit = taken (R.pulseRaw r) (λ vs. getD vs 0 0) refl tt (true-T h);
-      type = λ q. taken (R.pulseRaw r) (λ vs. getD vs 1 0) refl tt (true-T h);
-      fixed = taken (R.pulseRaw r) (λ vs. eqb (getD vs 4 0) 0) refl tt (true-T h);
-      item = ap I.Raw (pulseRaw-there r h);
-    }
-says (I.Pair r) h =
-    record {
-      bit = taken (R.pair r) (λ vs. getD vs 0 0) refl tt (true-T h);
-      type = no-type;
-      fixed = taken (R.pair r) (λ vs. eqb (getD vs 1 0) 0 && eqb (getD vs 4 0) 0) refl tt (true-T h);
-      item = ap I.Pair (pair-there r h);
-    }
-says (I.Integral r) h =
-    record {
-      bit = taken (M.integral r) (λ vs. getD vs 0 0) refl tt (true-T h);
-      type = λ q. taken (M.integral r) (λ vs. getD vs 1 0) refl tt (true-T h);
-      fixed = refl;
-      item = ap I.Integral (integral-there r h);
-    }
-says (I.Time r) h =
-    record {
-      bit = taken (M.time r) (λ vs. getD vs 0 0) refl tt (true-T h);
-      type = λ q. taken (M.time r) (λ vs. getD vs 1 0) refl tt (true-T h);
-      fixed = taken (M.time r) (λ vs. eqb (getD vs 5 0) 0) refl tt (true-T h);
-      item = ap I.Time (time-there r h);
-    }
-says (I.Pedestal r) h =
-    record {
-      bit = taken (M.pedestal r) (λ vs. getD vs 0 0) refl tt (true-T h);
-      type = λ q. taken (M.pedestal r) (λ vs. getD vs 1 0) refl tt (true-T h);
-      fixed = refl;
-      item = ap I.Pedestal (pedestal-there r h);
-    }
-says (I.Empty r) h =
-    record {
-      bit = taken (W.empty r) (λ vs. getD vs 0 0) refl tt (true-T h);
-      type = λ q. taken (W.empty r) (λ vs. getD vs 1 0) refl tt (true-T h);
-      fixed = refl;
-      item = ap I.Empty (empty-there r h);
-    }
-says (I.Filler r) h =
-    record {
-      bit = taken (W.filler r) (λ vs. getD vs 0 0) refl tt (true-T h);
-      type = λ q. taken (W.filler r) (λ vs. getD vs 1 0) refl tt (true-T h);
-      fixed = refl;
-      item = ap I.Filler (filler-there r h);
-    }
+says (I.Block r) h = by-type (I.Block r) 0 (drop 2 (W.blockHeader r)) tt h refl refl (taken (W.blockHeader r) (λ vs. eqb (getD vs 3 0) 1) refl tt (true-T h)) (ap I.Block (blockHeader-there r h))
+says (I.Parameters r) h = by-bit (I.Parameters r) (drop 1 (W.parameters r)) tt h refl (taken (W.parameters r) (λ vs. eqb (getD vs 1 0) 0) refl tt (true-T h)) (ap I.Parameters (parameters-there r h))
+says (I.Trailer r) h = by-type (I.Trailer r) 1 (drop 2 (W.trailer r)) tt h refl refl refl (ap I.Trailer (trailer-there r h))
+says (I.Event r) h = by-type (I.Event r) 2 (drop 2 (W.eventHeader r)) tt h refl refl refl (ap I.Event (eventHeader-there r h))
+says (I.Clock r) h = by-type (I.Clock r) 3 (drop 2 (W.triggerTime r)) tt h refl refl refl (ap I.Clock (triggerTime-there r h))
+says (I.ClockHigh r) h = by-bit (I.ClockHigh r) (drop 1 (W.triggerTimeHigh r)) tt h refl (taken (W.triggerTimeHigh r) (λ vs. eqb (getD vs 1 0) 0) refl tt (true-T h)) (ap I.ClockHigh (triggerTimeHigh-there r h))
+says (I.Window r) h = by-type (I.Window r) 4 (drop 2 (R.window r)) tt h refl refl (taken (R.window r) (λ vs. eqb (getD vs 3 0) 0) refl tt (true-T h)) (ap I.Window (window-there r h))
+says (I.Raw r) h = by-type (I.Raw r) 6 (drop 2 (R.pulseRaw r)) tt h refl refl (taken (R.pulseRaw r) (λ vs. eqb (getD vs 4 0) 0) refl tt (true-T h)) (ap I.Raw (pulseRaw-there r h))
+says (I.Pair r) h = by-bit (I.Pair r) (drop 1 (R.pair r)) tt h refl (taken (R.pair r) (λ vs. eqb (getD vs 1 0) 0 && eqb (getD vs 4 0) 0) refl tt (true-T h)) (ap I.Pair (pair-there r h))
+says (I.Integral r) h = by-type (I.Integral r) 7 (drop 2 (M.integral r)) tt h refl refl refl (ap I.Integral (integral-there r h))
+says (I.Time r) h = by-type (I.Time r) 8 (drop 2 (M.time r)) tt h refl refl (taken (M.time r) (λ vs. eqb (getD vs 5 0) 0) refl tt (true-T h)) (ap I.Time (time-there r h))
+says (I.Pedestal r) h = by-type (I.Pedestal r) 10 (drop 2 (M.pedestal r)) tt h refl refl refl (ap I.Pedestal (pedestal-there r h))
+says (I.Empty r) h = by-type (I.Empty r) 14 (drop 2 (W.empty r)) tt h refl refl refl (ap I.Empty (empty-there r h))
+says (I.Filler r) h = by-type (I.Filler r) 15 (drop 2 (W.filler r)) tt h refl refl refl (ap I.Filler (filler-there r h))
 
 -- ---- one step
 
