@@ -1,6 +1,6 @@
 -- What private functions of the channel writer say and ask; no public contract cites it. Assumes nothing.
 use Prim.Native.Nat.{ℕ, _+_, _-_, _/_, _≤_}
-use mathlib.Core.Bool.{Bool, cond, _&&_}
+use mathlib.Core.Bool.{Bool, cond, _&&_, _||_}
 use mathlib.Core.List.{List, [], _∷_}
 use lib.ListN.{length, take}
 use Rattle.finder.specs.declared.Pulse.{Pulse}
@@ -19,6 +19,14 @@ pub record InWindow (n : ℕ) (found : Pulses) : Type 0 where
   pub few : found .count ≤ 3
   pub stored : found .count ≤ length (found .pulses)
   pub each : EachFits n (listed found)
+
+-- the mode writes something of a pulse
+unfoldable pub ofPulses : Parts → Bool
+ofPulses m = ((m .raw || m .integral) || m .time) || m .pedestal
+
+-- as many pulses as the mode writes of
+abbrev pub limitFor : Parts → ℕ → ℕ
+limitFor m limit = cond (ofPulses m) limit 0
 
 -- ---- how many words, without the words
 

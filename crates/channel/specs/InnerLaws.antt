@@ -1,26 +1,24 @@
 -- Pulses in three places, read in turn; and how many words a channel takes. Assumes nothing.
 use Prim.Native.Nat.{ℕ, zero, suc, _+_, _-_, _≤_, _<_}
 use mathlib.Core.Path.{_≡_, refl, sym, ap, ap₂, _∙_}
-use mathlib.Core.Bool.{Bool, true, false, cond, _&&_}
+use mathlib.Core.Bool.{Bool, true, false, cond, _&&_, _||_, true≢false}
 use mathlib.Core.List.{List, [], _∷_, _++_}
 use native.Mathlib.Omega.{arith}
 use native.Mathlib.Numerals.{add-one}
-use borrow.Author.Tests.{ne-eqb, lt-ltb}
-use lib.Dec.{eqb, ltb}
 use lib.ListN.{length, getD, drop, replicate, drop-of-length-le, length-append, length-take, length-drop}
 use lib.Seq.{drop-cons, getD-take, length-take-le, take-at, sets-eq}
 use Rattle.settings.specs.Ranges.{mostSamples, settingsOk}
-use Rattle.settings.specs.RangesLaws.{settings-in-range}
+use Rattle.settings.specs.RangesLaws.{InRange, settings-in-range}
 use Rattle.settings.specs.declared.Settings.{Settings}
 use Rattle.finder.specs.declared.Pulse.{Pulse}
 use Rattle.finder.specs.declared.Pulses.{Pulses}
-use Rattle.finder.specs.Find.{firstOver, overIn, anyOver, tcFrom, pulseAt, pulsesFrom, noPulse, packed, findAll}
+use Rattle.finder.specs.Find.{anyOver, pulsesFrom, noPulse, packed, findAll}
 use Rattle.finder.specs.CallLaws.{find-in-range}
-use Rattle.finder.specs.RangeLaws.{PulseFits, EachFits, fits-at, pulses-fit, pulses-count, packed-count}
+use Rattle.finder.specs.RangeLaws.{PulseFits, EachFits, fits-at, pulses-fit, pulses-count}
 use Rattle.channel.specs.declared.Parts.{Parts}
 use Rattle.items.specs.declared.Item.{Item}
 use Rattle.channel.specs.Channel.{pairItems, windowItems, setOf, rawItems, integralItem, timeItem, pedestalItem, partsOf, pulseItems, pulsesItems, Common, commonOf, pulsesOf, channelItems}
-use Rattle.channel.specs.Inner.{listed, InWindow, pairsFor, pulseLength, pulsesLength, channelLength}
+use Rattle.channel.specs.Inner.{listed, InWindow, ofPulses, limitFor, pairsFor, pulseLength, pulsesLength, channelLength}
 
 -- ---- the three places
 
@@ -125,63 +123,79 @@ module _ (m : Parts) (found : Pulses) (stored : found .count ≤ length (found .
       let k = rw (drop-of-length-le (listed found) b) at h in
       omega (arith, k)
 
--- ---- any sample over is a first pulse
+-- ---- a mode that writes nothing of a pulse
 
-any-first : (w : List ℕ) (t : ℕ) → anyOver w t ≡ ltb 0 (firstOver w t (length w))
-unfolding overIn
-any-first w t = refl
+or-off : (a b : Bool) → a || b ≡ false → (a ≡ false) × (b ≡ false)
+or-off true b h = absurd (true≢false h)
+or-off false b h = (refl, h)
 
-first-length : (w : List ℕ) (t nsb nsa n : ℕ)
-    → length (pulsesFrom w t nsb nsa (suc n) 0)
-    ≡ cond (eqb (firstOver w t (length w)) 0) 0 (suc (length (pulsesFrom w t nsb nsa n (firstOver w t (length w) + nsa))))
-unfolding pulsesFrom tcFrom
-first-length w t nsb nsa n = go (eqb (firstOver w t (length w)) 0)
-  where
-    go : (b : Bool) → length (cond b [] (pulseAt w t nsb nsa (firstOver w t (length w)) ∷ pulsesFrom w t nsb nsa n (firstOver w t (length w) + nsa)))
-        ≡ cond b 0 (suc (length (pulsesFrom w t nsb nsa n (firstOver w t (length w) + nsa))))
-    go true = refl
-    go false = refl
+parts-off : (m : Parts) → ofPulses m ≡ false → (m .raw ≡ false) × ((m .integral ≡ false) × ((m .time ≡ false) × (m .pedestal ≡ false)))
+unfolding ofPulses
+parts-off m h =
+    let a = or-off _ (m .pedestal) h in
+    let b = or-off _ (m .time) (a .0) in
+    let c = or-off (m .raw) (m .integral) (b .0) in
+    (c .0, (c .1, (b .1, a .1)))
 
-pub over-some : (s : Common) (t : ℕ) (w : List ℕ) → 1 ≤ s .limit → anyOver w t ≡ ltb 0 (length (pulsesOf s t w))
-over-some s t w h = go (s .limit) h
-  where
-    by : (k n : ℕ) → ltb 0 k ≡ ltb 0 (cond (eqb k 0) 0 (suc n))
-    by zero n = refl
-    by (suc k) n = rw (ne-eqb (suc k) 0 (λ e. omega arith), lt-ltb 0 (suc k) (omega arith), lt-ltb 0 (suc n) (omega arith))
+pulse-none : (m : Parts) (c : ℕ) (w : List ℕ) (i : ℕ) (p : Pulse) → ofPulses m ≡ false → (pulseItems m c w i p ≡ []) × (pulseLength m p ≡ 0)
+unfolding pulseItems pulseLength
+pulse-none m c w i p h = let o = parts-off m h in rw (o .0, o .1 .0, o .1 .1 .0, o .1 .1 .1) (refl, refl)
 
-    go : (n : ℕ) → 1 ≤ n → anyOver w t ≡ ltb 0 (length (pulsesFrom w t (s .nsb) (s .nsa) n 0))
-    go zero h = absurd (omega arith)
-    go (suc n) h = rw (first-length w t (s .nsb) (s .nsa) n) (any-first w t ∙ by (firstOver w t (length w)) _)
+items-none : (m : Parts) (c : ℕ) (w : List ℕ) (i : ℕ) (l : List Pulse) → ofPulses m ≡ false → pulsesItems m c w i l ≡ []
+unfolding pulsesItems
+items-none m c w i [] h = refl
+items-none m c w i (p ∷ l) h = ap₂ (λ (x y : List Item). x ++ y) (pulse-none m c w i p h .0) (items-none m c w (i + 1) l h)
+
+length-none : (m : Parts) (l : List Pulse) → ofPulses m ≡ false → pulsesLength m l ≡ 0
+unfolding pulsesLength
+length-none m [] h = refl
+length-none m (p ∷ l) h = ap₂ (λ (x y : ℕ). x + y) (pulse-none m 0 [] 0 p h .1) (length-none m l h)
 
 -- ---- what the finder gives under settings in range
 
-pub record IsFound (s : Settings) (t : ℕ) (w : List ℕ) (found : Pulses) : Type 0 where
+-- what is written of the pulses found, and its length, are those of all pulses
+pub record IsFound (s : Settings) (t : ℕ) (w : List ℕ) (m : Parts) (found : Pulses) : Type 0 where
   pub inside : InWindow (length w) found
-  pub pulses : listed found ≡ pulsesOf (commonOf s) t w
-  pub some : ltb 0 (found .count) ≡ anyOver w t
+  pub items : (c : ℕ) → pulsesItems m c w 0 (listed found) ≡ pulsesItems m c w 0 (pulsesOf (commonOf s) t w)
+  pub size : pulsesLength m (listed found) ≡ pulsesLength m (pulsesOf (commonOf s) t w)
 
-pub is-found : (s : Settings) (t : ℕ) (w : List ℕ) (found : Pulses) → settingsOk s ≡ true → length w ≤ mostSamples
-    → found ≡ findAll w t (s .nsb) (s .nsa) (s .limit) → IsFound s t w found
-is-found s t w found ok l e =
-    let r = settings-in-range s ok in
-    let few = pulses-count w t (s .nsb) (s .nsa) (s .limit) 0 in
-    let three : length (pulsesOf (commonOf s) t w) ≤ 3 = omega (arith, few, r .limit .1) in
-    rw (e, find-in-range s w t r l)
-    (record {
-      inside = in-window (length w) (pulsesOf (commonOf s) t w) (pulses-fit w t (s .nsb) (s .nsa) (s .limit) 0 (r .nsa .0)) three;
-      pulses = listed-packed (pulsesOf (commonOf s) t w) three;
-      some = ap (ltb 0) (packed-count (pulsesOf (commonOf s) t w)) ∙ sym (over-some (commonOf s) t w (r .limit .0));
-    })
+found-to : (s : Settings) (t : ℕ) (w : List ℕ) (n : ℕ) (found : Pulses) → InRange s → length w ≤ mostSamples → n ≤ 3 → found ≡ findAll w t (s .nsb) (s .nsa) n
+    → InWindow (length w) found × (listed found ≡ pulsesFrom w t (s .nsb) (s .nsa) n 0)
+found-to s t w n found r l h e =
+    let few : length (pulsesFrom w t (s .nsb) (s .nsa) n 0) ≤ 3 = omega (arith, pulses-count w t (s .nsb) (s .nsa) n 0) in
+    rw (e, find-in-range s w t n r l h) (in-window (length w) _ (pulses-fit w t (s .nsb) (s .nsa) n 0 (r .nsa .0)) few, listed-packed _ few)
+
+pub is-found : (s : Settings) (t : ℕ) (w : List ℕ) (m : Parts) (found : Pulses) → settingsOk s ≡ true → length w ≤ mostSamples
+    → found ≡ findAll w t (s .nsb) (s .nsa) (limitFor m (s .limit)) → IsFound s t w m found
+is-found s t w m found ok l e = go (ofPulses m) refl
+  where
+    r : InRange s
+    r = settings-in-range s ok
+
+    to : (b : Bool) → ofPulses m ≡ b → found ≡ findAll w t (s .nsb) (s .nsa) (cond b (s .limit) 0)
+    to b h = e ∙ ap (λ (x : Bool). findAll w t (s .nsb) (s .nsa) (cond x (s .limit) 0)) h
+
+    go : (b : Bool) → ofPulses m ≡ b → IsFound s t w m found
+    go true on =
+        let f = found-to s t w (s .limit) found r l (r .limit .1) (to true on) in
+        record { inside = f .0; items = λ c. ap (pulsesItems m c w 0) (f .1); size = ap (pulsesLength m) (f .1) }
+    go false off =
+        record {
+          inside = found-to s t w 0 found r l (omega arith) (to false off) .0;
+          items = λ c. items-none m c w 0 (listed found) off ∙ sym (items-none m c w 0 (pulsesOf (commonOf s) t w) off);
+          size = length-none m (listed found) off ∙ sym (length-none m (pulsesOf (commonOf s) t w) off);
+        }
 
 -- the count from the numbers that the code has
-pub channel-counted : (s : Settings) (t : ℕ) (w : List ℕ) (m : Parts) (found : Pulses) (a b : ℕ) → m ≡ partsOf (s .mode) → IsFound s t w found
-    → a ≡ cond (m .window && ltb 0 (found .count)) (1 + pairsFor (length w)) 0 → b ≡ pulsesLength m (listed found)
+pub channel-counted : (s : Settings) (t : ℕ) (w : List ℕ) (m : Parts) (on : Bool) (found : Pulses) (a b : ℕ) → m ≡ partsOf (s .mode)
+    → on ≡ (m .window && anyOver w t) → IsFound s t w m found → a ≡ cond on (1 + pairsFor (length w)) 0 → b ≡ pulsesLength m (listed found)
     → a + b ≡ channelLength (commonOf s) t w
 unfolding channelLength
-channel-counted s t w m found a b p f ha hb = rw (ha, hb, f .some, f .pulses, p)
+channel-counted s t w m on found a b p o f ha hb = rw (ha, hb, f .size, o, p)
 
 -- the channel's records from what the code has
-pub channel-found : (s : Settings) (t c : ℕ) (w : List ℕ) (m : Parts) (found : Pulses) → m ≡ partsOf (s .mode) → IsFound s t w found
-    → channelItems (commonOf s) t c w ≡ cond (m .window && ltb 0 (found .count)) (windowItems c w) [] ++ pulsesItems m c w 0 (listed found)
+pub channel-found : (s : Settings) (t c : ℕ) (w : List ℕ) (m : Parts) (on : Bool) (found : Pulses) → m ≡ partsOf (s .mode)
+    → on ≡ (m .window && anyOver w t) → IsFound s t w m found
+    → channelItems (commonOf s) t c w ≡ cond on (windowItems c w) [] ++ pulsesItems m c w 0 (listed found)
 unfolding channelItems
-channel-found s t c w m found p f = rw (f .some, f .pulses, p)
+channel-found s t c w m on found p o f = rw (f .items c, o, p)

@@ -8,16 +8,17 @@ use finder::Pulses;
 use items::Item;
 use settings::Settings;
 ghost use mathlib.Core.Path.{_≡_};
-ghost use mathlib.Core.Bool.{true, cond};
+ghost use mathlib.Core.Bool.{true, cond, _&&_};
 ghost use mathlib.Core.List.{[], _∷_};
 ghost use Prim.Native.Nat.{_+_, _<_, _≤_};
 ghost use lib.ListN.{length};
 ghost use Rattle.ground.specs.Splice.{Written};
 ghost use Rattle.settings.specs.Ranges.{mostSamples, settingsOk};
+ghost use Rattle.finder.specs.Find.{anyOver, findAll};
 ghost use Rattle.finder.specs.RangeLaws.{PulseFits};
 ghost use Rattle.items.specs.Items.{wordOf, wordsOf};
 ghost use Rattle.channel.specs.Channel.{windowItems, rawItems, partsOf, itemIf, pulseItems, pulsesItems, commonOf, channelItems, channelWords};
-ghost use Rattle.channel.specs.Inner.{listed, InWindow, channelLength};
+ghost use Rattle.channel.specs.Inner.{listed, InWindow, limitFor, channelLength};
 
 // What a mode writes: the window, and of each pulse its samples, integral, time (high-resolution or TC) and pedestal.
 pub struct Parts {
@@ -166,6 +167,35 @@ fn put_window_if(words: &mut [u32], at: usize, on: bool, channel: u32, row: &[u1
     }
 }
 
+// The pulses that the mode writes of: where it writes of none, none is searched for.
+fn limit_for(parts: Parts, limit: usize) -> usize
+    ensures { λ r. ⌜ r ≡ limitFor parts limit ⌝ }
+{
+    if parts.raw | parts.integral | parts.time | parts.pedestal {
+        limit
+    } else {
+        0
+    }
+}
+
+fn pulses_for(parts: Parts, settings: Settings, threshold: u32, row: &[u16]) -> Pulses
+    ensures { λ r. ⌜ r ≡ findAll (now (row .entry)) threshold (settings .nsb) (settings .nsa) (limitFor parts (settings .limit)) ⌝ }
+{
+    let limit = limit_for(parts, settings.limit);
+    finder::pulses_of(row, threshold, settings.nsb, settings.nsa, limit)
+}
+
+// The window is wanted if any sample is over; a mode that writes no window looks at none.
+fn window_for(parts: Parts, threshold: u32, row: &[u16]) -> bool
+    ensures { λ r. ⌜ r ≡ (parts .window && anyOver (now (row .entry)) threshold) ⌝ }
+{
+    if parts.window {
+        finder::any_over(row, threshold)
+    } else {
+        false
+    }
+}
+
 // The words of a channel: of the common settings, its own threshold, its number and its window.
 pub fn put_channel(
     words: &mut [u32],
@@ -180,8 +210,9 @@ pub fn put_channel(
     ensures { λ r. ⌜ Written (now (words .entry)) at (channelWords (commonOf settings) threshold channel (now (row .entry))) r (now (words .exit)) ⌝ }
 {
     let parts = parts_of(settings.mode);
-    let found = finder::pulses_of(row, threshold, settings.nsb, settings.nsa, settings.limit);
-    let window = put_window_if(words, at, parts.window & (0 < found.count), channel, row);
+    let wanted = window_for(parts, threshold, row);
+    let found = pulses_for(parts, settings, threshold, row);
+    let window = put_window_if(words, at, wanted, channel, row);
     put_pulses(words, window, parts, channel, row, found)
 }
 
@@ -191,7 +222,7 @@ pub fn channel_length(settings: Settings, threshold: u32, row: &[u16]) -> usize
     ensures { λ r. ⌜ r ≡ channelLength (commonOf settings) threshold (now (row .entry)) ⌝ }
 {
     let parts = parts_of(settings.mode);
-    let found = finder::pulses_of(row, threshold, settings.nsb, settings.nsa, settings.limit);
-    count::window_length(parts.window & (0 < found.count), row.len())
-        + count::pulses_length(parts, found, row.len())
+    let wanted = window_for(parts, threshold, row);
+    let found = pulses_for(parts, settings, threshold, row);
+    count::window_length(wanted, row.len()) + count::pulses_length(parts, found, row.len())
 }

@@ -5,35 +5,45 @@ use raw::pair::SamplePair;
 use raw::pulse_raw::PulseRaw;
 use raw::window::WindowRaw;
 ghost use mathlib.Core.Path.{_≡_};
-ghost use Prim.Native.Nat.{_+_, _≤_};
+ghost use mathlib.Core.List.{[], _∷_};
+ghost use Prim.Native.Nat.{_+_, _<_, _≤_};
 ghost use lib.ListN.{length};
 ghost use Rattle.ground.specs.Splice.{Written};
 ghost use Rattle.settings.specs.Ranges.{mostSamples};
 ghost use Rattle.finder.specs.RangeLaws.{PulseFits};
-ghost use Rattle.items.specs.Items.{wordsOf};
+ghost use Rattle.items.specs.Items.{wordOf, wordsOf};
 ghost use Rattle.channel.specs.Channel.{pairItems, windowItems, rawItems};
 
-fn pair_of(first: u16, second: u16) -> Item
-    ensures { λ r. ⌜ r ≡ Item.Pair (record { nofirst = 0; first = first; nosecond = 0; second = second }) ⌝ }
+fn pair_of(first: u16, second: u16) -> SamplePair
+    ensures { λ r. ⌜ r ≡ record { nofirst = 0; first = first; nosecond = 0; second = second } ⌝ }
 {
-    Item::Pair(SamplePair {
+    SamplePair {
         nofirst: 0,
         first: first as u32,
         nosecond: 0,
         second: second as u32,
-    })
+    }
 }
 
 // The odd end: bit 13 says that there is no second sample.
-fn odd_end(first: u16) -> Item
-    ensures { λ r. ⌜ r ≡ Item.Pair (record { nofirst = 0; first = first; nosecond = 1; second = 0 }) ⌝ }
+fn odd_end(first: u16) -> SamplePair
+    ensures { λ r. ⌜ r ≡ record { nofirst = 0; first = first; nosecond = 1; second = 0 } ⌝ }
 {
-    Item::Pair(SamplePair {
+    SamplePair {
         nofirst: 0,
         first: first as u32,
         nosecond: 1,
         second: 0,
-    })
+    }
+}
+
+// As `put_item`, but no item is made: most words of a block are pairs.
+fn put_pair(words: &mut [u32], at: usize, pair: SamplePair) -> usize
+    requires { ⌜ at < length (now words) ⌝ }
+    ensures { λ r. ⌜ Written (now (words .entry)) at (wordOf (Item.Pair pair) ∷ []) r (now (words .exit)) ⌝ }
+{
+    words[at] = pair.build();
+    at + 1
 }
 
 // The samples two by two.
@@ -44,11 +54,11 @@ fn put_pairs(words: &mut [u32], at: usize, samples: &[u16]) -> usize
     let mut next = at;
     let mut i = 0;
     while i + 1 < samples.len() {
-        next = crate::put_item(words, next, pair_of(samples[i], samples[i + 1]));
+        next = put_pair(words, next, pair_of(samples[i], samples[i + 1]));
         i += 2;
     }
     if i < samples.len() {
-        return crate::put_item(words, next, odd_end(samples[i]));
+        return put_pair(words, next, odd_end(samples[i]));
     }
     next
 }

@@ -6,14 +6,14 @@ use Rattle.channel.proofs.channel_length.Tie as tie
 
 pulses-length-requires : tie.Need-pulses-length-requires
 pulses-length-requires c κs =
-    let a = c .before .before .before .before .before .before in
-    (is-found _ _ _ _ (a .pre .0) (a .pre .1) (c .before .before .before .pulses-of .ensures) .inside, a .pre .1)
+    let a = c .before .before .before .before .before in
+    (is-found _ _ _ _ _ (a .pre .0) (a .pre .1) (c .before .pulses-for .ensures) .inside, a .pre .1)
 
 returns : tie.Need-returns
 returns c =
-    let a = c .before .before .before .before .before .before .before in
-    channel-counted _ _ _ _ _ _ _ (c .before .before .before .before .before .parts-of .ensures)
-    (is-found _ _ _ _ (a .pre .0) (a .pre .1) (c .before .before .before .before .pulses-of .ensures))
+    let a = c .before .before .before .before .before .before in
+    channel-counted _ _ _ _ _ _ _ _ (c .before .before .before .before .parts-of .ensures) (c .before .before .before .window-for .ensures)
+    (is-found _ _ _ _ _ (a .pre .0) (a .pre .1) (c .before .before .pulses-for .ensures))
     (c .before .window-length .ensures .0)
     (c .pulses-length .ensures .0)
 
@@ -21,6 +21,7 @@ pub channel-length-spec : {M : Type 1} → statement M
 channel-length-spec =
     tie.close
     (tie.spec
+    (λ c κs. search needs)
     (λ c κs. search needs)
     (λ c κs. search needs)
     (λ c κs. search needs)

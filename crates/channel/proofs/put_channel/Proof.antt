@@ -1,53 +1,56 @@
 -- `channel::put_channel` meets its contract: the window where it is wanted, then the pulses that the finder gave.
 use Prim.Native.Nat.{_+_, _≤_}
-use mathlib.Core.Bool.{cond, _&&_}
+use mathlib.Core.Path.{_≡_}
+use mathlib.Core.Bool.{cond}
 use mathlib.Core.List.{List, [], _++_}
 use native.Mathlib.Omega.{arith}
 use borrow.Author.Needs.{needs}
-use lib.Dec.{ltb}
 use lib.ListN.{length}
 use Rattle.items.specs.declared.Item.{Item}
 use Rattle.items.specs.ItemsLaws.{first-room, then-room, then-written}
-use Rattle.channel.specs.Channel.{windowItems, pulsesItems}
+use Rattle.channel.specs.Channel.{windowItems, pulsesItems, commonOf, channelItems}
 use Rattle.channel.specs.Inner.{listed}
 use Rattle.channel.specs.InnerLaws.{IsFound, is-found, channel-found}
 use Rattle.channel.proofs.put_channel.Statement.{statement}
 use Rattle.channel.proofs.put_channel.Tie as tie
 
 -- what is known once the finder has answered
-module _ (c : tie.After-pulses-of) where
-  found : IsFound (c .before .before .before .before .args .settings) (c .before .before .before .before .args .threshold) (c .before .before .before .before .args .row .now) (c .pulses-of .result)
-  found = is-found _ _ _ _ (c .before .before .before .before .pre .0 .0) (c .before .before .before .before .pre .0 .1) (c .pulses-of .ensures)
+module _ (c : tie.After-pulses-for) where
+  found : IsFound (c .before .before .before .before .before .args .settings) (c .before .before .before .before .before .args .threshold) (c .before .before .before .before .before .args .row .now) (c .before .before .parts-of .result) (c .pulses-for .result)
+  found = is-found _ _ _ _ _ (c .before .before .before .before .before .pre .0 .0) (c .before .before .before .before .before .pre .0 .1) (c .pulses-for .ensures)
 
   window : List Item
-  window = cond (c .before .parts-of .result .window && ltb 0 (c .pulses-of .result .count)) (windowItems (c .before .before .before .before .args .channel) (c .before .before .before .before .args .row .now)) []
+  window = cond (c .before .window-for .result) (windowItems (c .before .before .before .before .before .args .channel) (c .before .before .before .before .before .args .row .now)) []
 
   pulses : List Item
-  pulses = pulsesItems (c .before .parts-of .result) (c .before .before .before .before .args .channel) (c .before .before .before .before .args .row .now) 0 (listed (c .pulses-of .result))
+  pulses = pulsesItems (c .before .before .parts-of .result) (c .before .before .before .before .before .args .channel) (c .before .before .before .before .before .args .row .now) 0 (listed (c .pulses-for .result))
 
-  room : c .before .before .before .before .args .at + length (window ++ pulses) ≤ length (c .before .before .before .before .args .words .now)
+  are : channelItems (commonOf (c .before .before .before .before .before .args .settings)) (c .before .before .before .before .before .args .threshold) (c .before .before .before .before .before .args .channel) (c .before .before .before .before .before .args .row .now) ≡ window ++ pulses
   unfolding window pulses
-  room = rw (channel-found _ _ _ _ _ _ (c .before .parts-of .ensures) found) at (c .before .before .before .before .pre .1)
+  are = channel-found _ _ _ _ _ _ _ (c .before .before .parts-of .ensures) (c .before .window-for .ensures) found
+
+  room : c .before .before .before .before .before .args .at + length (window ++ pulses) ≤ length (c .before .before .before .before .before .args .words .now)
+  room = rw are at (c .before .before .before .before .before .pre .1)
 
 put-window-if-requires : tie.Need-put-window-if-requires
 unfolding window
 put-window-if-requires c κs =
-    let f = c .before .before .before in
-    (f .before .before .before .before .pre .0 .1, first-room _ _ (window f) _ (room f))
+    let f = c .before in
+    (f .before .before .before .before .before .pre .0 .1, first-room _ _ (window f) _ (room f))
 
 put-pulses-requires : tie.Need-put-pulses-requires
 unfolding window pulses
 put-pulses-requires c κs =
-    let f = c .before .before .before .before .before .before .before in
-    ((found f .inside, f .before .before .before .before .pre .0 .1), then-room _ _ (window f) (pulses f) _ _ (room f) (c .before .before .before .put-window-if .ensures))
+    let f = c .before .before .before .before .before in
+    ((found f .inside, f .before .before .before .before .before .pre .0 .1), then-room _ _ (window f) (pulses f) _ _ (room f) (c .before .before .before .put-window-if .ensures))
 
 returns : tie.Need-returns
 unfolding window pulses
 returns c =
-    let f = c .before .before .before .before .before .before .before .before .before .before in
-    rw (channel-found _ _ _ _ _ _ (f .before .parts-of .ensures) (found f))
+    let f = c .before .before .before .before .before .before .before .before in
+    rw (are f)
     (then-written _ _ (window f) _ _ (pulses f) _ _ (omega (arith, room f)) (c .before .before .before .before .before .before .put-window-if .ensures) (c .before .before .put-pulses .ensures))
 
 pub put-channel-spec : {M : Type 1} → statement M
 put-channel-spec =
-    tie.close (tie.spec (λ c κs. tt) (λ c κs. tt) put-window-if-requires put-pulses-requires (λ c. search needs) returns)
+    tie.close (tie.spec (λ c κs. tt) (λ c κs. tt) (λ c κs. tt) put-window-if-requires put-pulses-requires (λ c. search needs) returns)
