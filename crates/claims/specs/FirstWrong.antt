@@ -1,6 +1,6 @@
 -- Demand 2: "a block that breaks the layout is refused at its first wrong word": a refusal at place p depends on the words up to p alone, and the
 -- records before it are those of the words before p. Assumes nothing.
-use Prim.Native.Nat.{ℕ, zero, suc, _+_, _-_, _≤_, _<_}
+use Prim.Native.Nat.{ℕ, zero, suc, _+_, _-_, _^_, _≤_, _<_}
 use mathlib.Core.Path.{_≡_, refl, sym, ap, _∙_}
 use mathlib.Core.Bool.{Bool, true, false, cond, true≢false}
 use mathlib.Core.List.{List, [], _∷_}
@@ -136,17 +136,13 @@ not-limit : (s : Scan) → atLimit s ≡ false → unfinished (s .phase) ≡ tru
 unfolding atLimit
 not-limit s h u e = eqb-false (s .place) 4194303 (rw u at h) e
 
-record Onward (s u : Scan) : Type 0 where
-  placed : Placed u
-  next : u .place ≡ s .place + 1
-
--- an accepted word is one place on
-placed-after : (s : Scan) (word : ℕ) (f : Form) (u : Scan) → Placed s → Accepted s word f u → Onward s u
+-- an accepted word keeps to it
+placed-after : (s : Scan) (word : ℕ) (f : Form) (u : Scan) → Placed s → Accepted s word f u → Placed u
 unfolding after onward
 placed-after s word f u p a =
     let next : u .place ≡ s .place + 1 = ap (λ (t : Scan). t .place) (a .scan) ∙ omega arith in
     let phase : u .phase ≡ phaseAfter s (itemFrom f word) = ap (λ (t : Scan). t .phase) (a .scan) in
-    record { placed = go (s .phase) refl next phase; next = next }
+    go (s .phase) refl next phase
   where
     open-phase : (q : Phase) → s .phase ≡ q → unfinished q ≡ true → u .place ≡ s .place + 1 → u .phase ≡ phaseAfter s (itemFrom f word) → Placed u
     open-phase q e v next phase =
@@ -181,27 +177,41 @@ place-end s = go (atLimit s) (unfinished (s .phase))
     go false true = refl
     go false false = refl
 
--- the place where a run ends, refused or not, is the number of the records read before it
-place-counts : (s : Scan) (ws : List ℕ) → Placed s → placeOf ((readFrom s ws) .out) ≡ s .place + length ((readFrom s ws) .items)
+-- no run from such a scan ends beyond the last filler that may come
+place-within : (s : Scan) (ws : List ℕ) → Placed s → placeOf ((readFrom s ws) .out) ≤ 4194306
 unfolding readFrom judgeAt
-place-counts s [] p = place-end s ∙ omega arith
-place-counts s (w ∷ ws) p = go (stepAt s w) refl (λ t. place-counts t ws)
+place-within s [] p = omega (arith, place-end s)
+place-within s (w ∷ ws) p = go (stepAt s w) refl (λ t. place-within t ws)
   where
-    go : (j : Step) → stepAt s w ≡ j → ((t : Scan) → Placed t → placeOf ((readFrom t ws) .out) ≡ t .place + length ((readFrom t ws) .items))
-        → placeOf ((onJudged (withItem w j) (s .place) (λ t. readFrom t ws)) .out) ≡ s .place + length ((onJudged (withItem w j) (s .place) (λ t. readFrom t ws)) .items)
-    go (S.Went f t) e n =
-        let o = placed-after s w f t p (accepted s w e) in
-        omega (arith, n t (o .placed), o .next)
+    go : (j : Step) → stepAt s w ≡ j → ((t : Scan) → Placed t → placeOf ((readFrom t ws) .out) ≤ 4194306) → placeOf ((onJudged (withItem w j) (s .place) (λ t. readFrom t ws)) .out) ≤ 4194306
+    go (S.Went f t) e n = n t (placed-after s w f t p (accepted s w e))
     go (S.Refused k) e n = omega arith
     go S.Ended e n = omega arith
+
+-- the place where a run ends, refused or not, is the number of the records read before it; from any scan, if it is not the largest place
+pub place-counts : (s : Scan) (ws : List ℕ) → placeOf ((readFrom s ws) .out) < 2 ^ 32 - 1 → placeOf ((readFrom s ws) .out) ≡ s .place + length ((readFrom s ws) .items)
+unfolding readFrom judgeAt after onward
+place-counts s [] p = place-end s ∙ omega arith
+place-counts s (w ∷ ws) p = go (stepAt s w) refl (λ t. place-counts t ws) p
+  where
+    go : (j : Step) → stepAt s w ≡ j → ((t : Scan) → placeOf ((readFrom t ws) .out) < 2 ^ 32 - 1 → placeOf ((readFrom t ws) .out) ≡ t .place + length ((readFrom t ws) .items))
+        → placeOf ((onJudged (withItem w j) (s .place) (λ t. readFrom t ws)) .out) < 2 ^ 32 - 1
+        → placeOf ((onJudged (withItem w j) (s .place) (λ t. readFrom t ws)) .out) ≡ s .place + length ((onJudged (withItem w j) (s .place) (λ t. readFrom t ws)) .items)
+    go (S.Went f t) e n p = omega (arith, n t p, ap (λ (u : Scan). u .place) (accepted s w e .scan))
+    go (S.Refused k) e n p = omega arith
+    go S.Ended e n p = omega arith
+
+-- below the largest place from a block's start on
+pub place-small : (x : List ℕ) → placeOf ((readFrom startOf x) .out) < 2 ^ 32 - 1
+place-small x = omega (arith, place-within startOf x (omega arith))
 
 -- "refused at its first wrong word": every input with the same first p + 1 words has the same records before and the same number at p
 pub first-wrong-word : (x y : List ℕ) (n p : ℕ) → (readFrom startOf x) .out ≡ Broken n p → p < length x → take (suc p) y ≡ take (suc p) x
     → readFrom startOf y ≡ readFrom startOf x
 first-wrong-word x y n p e h q =
-    let c : p ≡ length ((readFrom startOf x) .items) = sym (ap placeOf e) ∙ place-counts startOf x (omega arith) ∙ omega arith in
+    let c : p ≡ length ((readFrom startOf x) .items) = sym (ap placeOf e) ∙ place-counts startOf x (place-small x) ∙ omega arith in
     same-start startOf x y (omega arith) (ap (λ (k : ℕ). take (suc k) y) (sym c) ∙ q ∙ ap (λ (k : ℕ). take (suc k) x) c)
 
 -- a record is a word: the records before a refusal, or of a whole block, are as many as the words before it
 pub records-before : (x : List ℕ) → placeOf ((readFrom startOf x) .out) ≡ length ((readFrom startOf x) .items)
-records-before x = place-counts startOf x (omega arith) ∙ omega arith
+records-before x = place-counts startOf x (place-small x) ∙ omega arith

@@ -14,3 +14,5 @@ pub mod WrittenLaws
 pub mod Run
 pub mod RunLaws
 pub mod ExactLaws
+pub mod Reads
+pub mod ReadsLaws

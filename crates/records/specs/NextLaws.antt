@@ -264,6 +264,7 @@ pub record PairsMade (head : Item) (place : ℕ) (p : Pairs) (items : List Item)
   pub many : p .count ≡ min (length pairs) mostCount
 
 pub record FillersMade (slot n : ℕ) (items : List Item) : Type 0 where
+  pub some : 1 ≤ length items
   pub all : AllAre (fillerAt slot) items
   pub many : n ≡ min (length items) mostCount
 
@@ -363,7 +364,7 @@ fillers-make s t word words end a e =
     rw (c .is)
     (record {
       items = itemFrom F.Filler word ∷ c .items;
-      made = record { all = (refl, c .all); many = omega (arith, c .many) };
+      made = record { some = omega arith; all = (refl, c .all); many = omega (arith, c .many) };
       run = read-at s word words e ∙ ap (then (itemFrom F.Filler word)) (c .run);
     })
 
