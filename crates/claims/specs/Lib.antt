@@ -16,3 +16,4 @@ pub mod RunLaws
 pub mod ExactLaws
 pub mod Reads
 pub mod ReadsLaws
+pub mod Unique
