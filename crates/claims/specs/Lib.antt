@@ -17,3 +17,4 @@ pub mod ExactLaws
 pub mod Reads
 pub mod ReadsLaws
 pub mod Unique
+pub mod Grammar
