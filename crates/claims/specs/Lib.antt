@@ -18,3 +18,4 @@ pub mod Reads
 pub mod ReadsLaws
 pub mod Unique
 pub mod Grammar
+pub mod GrammarLaws

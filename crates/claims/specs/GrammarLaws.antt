@@ -1,0 +1,225 @@
+-- The records of a well-formed tree stand as the layout asks. Assumes nothing.
+use Prim.Native.Nat.{ℕ, zero, suc, _+_, _-_, _%_, _≤_, _<_}
+use mathlib.Core.Path.{_≡_, refl, sym, ap, _∙_, subst}
+use mathlib.Core.Bool.{Bool, true, false, not, cond, true≢false}
+use mathlib.Core.List.{List, [], _∷_, _++_, map}
+use native.Mathlib.Omega.{arith}
+use borrow.Author.Tests.{le-leb, lt-leb, lt-ltb, leb-true, eq-eqb, ne-eqb}
+use lib.Dec.{eqb, leb}
+use lib.ListN.{length, length-append}
+use Rattle.ground.specs.TestsLaws.{and-right}
+use Rattle.frame.specs.declared.block_header.BlockHeader.{BlockHeader}
+use Rattle.frame.specs.declared.trailer.BlockTrailer.{BlockTrailer}
+use Rattle.frame.specs.declared.filler.Filler.{Filler}
+use Rattle.raw.specs.declared.pair.SamplePair.{SamplePair}
+use Rattle.frame.specs.Words as W
+use Rattle.raw.specs.Words as R
+use Rattle.items.specs.Items.{fits, formOf, bitOf, typeOf}
+use Rattle.items.specs.declared.Form.the-variants as F
+use Rattle.items.specs.declared.Item.{Item}
+use Rattle.items.specs.declared.Item.the-variants as I
+use Rattle.reader.specs.declared.Phase.{Phase}
+use Rattle.reader.specs.declared.Phase.the-variants as P
+use Rattle.reader.specs.declared.Scan.{Scan}
+use Rattle.reader.specs.Reader as D
+use Rattle.reader.specs.Reader.{mostPairs, moreIn, allowedIn, otherIn, formIn, formFor, unfinished, atLimit, slotWrong, flagWrong, itemWrong, countWrong, onward, paired, filled, slotAfter, after, startOf}
+use Rattle.claims.specs.Layout.{Stands, Follow, IsBlock}
+use Rattle.claims.specs.PassLaws.{Passes, Inside, inside-none, inside-cons, inside-append, innerAt, edgeAt, inner-edge, inner-form, not-limit, both, onward-one}
+use Rattle.claims.specs.WrittenLaws.{Fine}
+use Rattle.claims.specs.Grammar.{Piece, window, raw, integral, time, pedestal, Clock, no-clock, clock27, clock48, EventTree, Setup, no-setup, setup, BlockTree, Tree, block, empty, pairsOf, pieceOf, piecesOf, clockOf, eventOf, eventsOf, setupOf, bodyOf, recordsOf, Each, LastPair, whole, odd, WindowPairs, RawPairs, PieceOk, ClockOk, EventOk, BlockOk, WellFormed}
+
+-- every field is within its bits
+abbrev Widths : List Item → Type 0
+Widths xs = Each (λ x. fits x ≡ true) xs
+
+widths-split : (xs ys : List Item) → Widths (xs ++ ys) → Widths xs × Widths ys
+widths-split [] ys w = (tt, w)
+widths-split (x ∷ xs) ys w = let p = widths-split xs ys (w .1) in ((w .0, p .0), p .1)
+
+-- one record that stands here, and what comes behind it
+step : (s : Scan) (x : Item) (xs : List Item) (left : ℕ) (ok : Phase → Bool) → s .place < 4194303 → formFor s (bitOf (formOf x)) (typeOf (formOf x)) ≡ formOf x → slotWrong s x ≡ false
+    → itemWrong s x ≡ false → countWrong s x ≡ false → fits x ≡ true → slotAfter s x ≡ s .slot → (onward (s .place) ≡ s .place + 1 → Inside (after s x) xs left ok)
+    → Inside s (x ∷ xs) left ok
+step s x xs left ok l type slot fields count widths e rest =
+    inside-cons s x xs left ok l (record { limit = not-limit s l; type = type; slot = slot; fields = fields; count = count; widths = widths }) e (rest (onward-one (s .place) l))
+
+-- ---- pairs
+
+pair-step : (s : Scan) (p : SamplePair) (xs : List Item) → LastPair p → moreIn (s .phase) ≡ F.Pair → flagWrong (s .phase) (p .nosecond) ≡ false → s .place < 4194303 → fits (I.Pair p) ≡ true
+    → (onward (s .place) ≡ s .place + 1 → Inside (after s (I.Pair p)) xs (s .left) innerAt) → Inside s (I.Pair p ∷ xs) (s .left) innerAt
+pair-step s p xs k m f l w = step s (I.Pair p) xs (s .left) innerAt l m refl (clean k) refl w refl
+  where
+    clean : LastPair p → itemWrong s (I.Pair p) ≡ false
+    clean (whole v) = rw (v .first, f, v .second)
+    clean (odd v) = rw (v .first, f, v .second, v .zero)
+
+-- where the reading stands with w samples of a window to come
+abbrev windowAt : ℕ → Phase
+windowAt zero = P.Items
+windowAt (suc w) = P.Window (D.pairsOf (suc w)) (eqb (suc w % 2) 1)
+
+window-inside : (w : ℕ) (ps : List SamplePair) (s : Scan) → WindowPairs w ps → s .phase ≡ windowAt w → s .place + length (pairsOf ps) < 4194303 → Widths (pairsOf ps)
+    → Inside s (pairsOf ps) (s .left) innerAt
+unfolding D.pairsOf after innerAt
+window-inside zero [] s v e l f = inside-none s innerAt (ap innerAt e)
+window-inside zero (p ∷ ps) s v e l f = absurd v
+window-inside (suc zero) [] s v e l f = absurd v
+window-inside (suc zero) (p ∷ []) s v e l f = pair-step s p [] (odd v) (ap moreIn e) (rw (e, v .second)) (omega arith) (f .0) (λ k. inside-none _ innerAt (rw e))
+window-inside (suc zero) (p ∷ q ∷ ps) s v e l f = absurd v
+window-inside (suc (suc n)) [] s v e l f = absurd v
+window-inside (suc (suc n)) (p ∷ ps) s v e l f =
+    pair-step s p (pairsOf ps) (whole (v .0)) (ap moreIn e) (rw (e, v .0 .second) (calm n)) (omega arith) (f .0)
+    (λ k. window-inside n ps _ (v .1) (rw e (next n)) (omega arith) (f .1))
+  where
+    calm : (n : ℕ) → flagWrong (windowAt (suc (suc n))) 0 ≡ false
+    calm zero = refl
+    calm (suc n) = rw (ne-eqb (D.pairsOf (suc (suc (suc n)))) 1 (λ q. omega arith))
+
+    next : (n : ℕ) → paired (windowAt (suc (suc n))) 0 ≡ windowAt n
+    next zero = refl
+    next (suc n) =
+        let m : D.pairsOf (suc (suc (suc n))) - 1 ≡ D.pairsOf (suc n) = omega arith in
+        let o : suc (suc (suc n)) % 2 ≡ suc n % 2 = omega arith in
+        rw (lt-leb (D.pairsOf (suc (suc (suc n)))) 1 (omega arith), m, o)
+
+raw-inside : (n : ℕ) (ps : List SamplePair) (s : Scan) → RawPairs ps → length ps ≤ n → n ≤ 250 → s .phase ≡ P.Raw n → s .place + length (pairsOf ps) < 4194303 → Widths (pairsOf ps)
+    → Inside s (pairsOf ps) (s .left) innerAt
+unfolding mostPairs after innerAt
+raw-inside n [] s v c m e l f = absurd v
+raw-inside n (p ∷ []) s v c m e l f =
+    pair-step s p [] v (rw (e, ne-eqb n 0 (λ q. omega arith))) (rw e) (omega arith) (f .0) (λ k. inside-none _ innerAt (rw e (few (eqb (p .nosecond) 1))))
+  where
+    few : (b : Bool) → innerAt (P.Raw (cond b 0 (n - 1))) ≡ true
+    few true = refl
+    few false = lt-ltb (n - 1) 250 (omega arith)
+raw-inside n (p ∷ q ∷ ps) s v c m e l f =
+    pair-step s p (pairsOf (q ∷ ps)) (whole (v .0)) (rw (e, ne-eqb n 0 (λ q. omega arith))) (rw e) (omega arith) (f .0)
+    (λ k. raw-inside (n - 1) (q ∷ ps) _ (v .1) (omega arith) (omega arith) (rw (e, v .0 .second)) (omega arith) (f .1))
+
+-- ---- an event
+
+piece-fine : (x : Piece) → PieceOk x → Widths (pieceOf x) → Fine (pieceOf x)
+unfolding after innerAt R.windowWithin mostPairs
+piece-fine (window r ps) v f s h l =
+    step s _ (pairsOf ps) (s .left) innerAt (omega arith) (inner-form (s .phase) 4 h refl) refl (ap not (both (le-leb 1 (r .width) (v .0)) (le-leb (r .width) 500 (v .1 .0)))) refl (f .0) refl
+    (λ k. window-inside (r .width) ps _ (v .1 .1) (start (r .width) (v .0)) (omega arith) (f .1))
+  where
+    start : (w : ℕ) → 1 ≤ w → P.Window (D.pairsOf w) (eqb (w % 2) 1) ≡ windowAt w
+    start zero h = absurd (omega arith)
+    start (suc w) h = refl
+piece-fine (raw r ps) v f s h l =
+    step s _ (pairsOf ps) (s .left) innerAt (omega arith) (inner-form (s .phase) 6 h refl) refl refl refl (f .0) refl
+    (λ k. raw-inside 250 ps _ (v .1) (v .0) (omega arith) refl (omega arith) (f .1))
+piece-fine (integral r) v f s h l = step s _ [] (s .left) innerAt (omega arith) (inner-form (s .phase) 7 h refl) refl refl refl (f .0) refl (λ k. inside-none _ innerAt refl)
+piece-fine (time r) v f s h l = step s _ [] (s .left) innerAt (omega arith) (inner-form (s .phase) 8 h refl) refl refl refl (f .0) refl (λ k. inside-none _ innerAt refl)
+piece-fine (pedestal r) v f s h l = step s _ [] (s .left) innerAt (omega arith) (inner-form (s .phase) 10 h refl) refl refl refl (f .0) refl (λ k. inside-none _ innerAt refl)
+
+inside-fine : (s : Scan) (xs ys : List Item) (left : ℕ) → s .place + length (xs ++ ys) < 4194303 → Inside s xs left innerAt → Fine ys → Inside s (xs ++ ys) left innerAt
+inside-fine s xs ys left l a b =
+    inside-append s xs ys left left innerAt innerAt a (λ t p q r e. subst (λ (n : ℕ). Inside t ys n innerAt) r (b t e (omega (arith, p, length-append xs ys))))
+
+pieces-fine : (xs : List Piece) → Each PieceOk xs → Widths (piecesOf xs) → Fine (piecesOf xs)
+pieces-fine [] v f s h l = inside-none s innerAt h
+pieces-fine (x ∷ xs) v f s h l =
+    let w = widths-split (pieceOf x) (piecesOf xs) f in
+    inside-fine s (pieceOf x) (piecesOf xs) (s .left) l (piece-fine x (v .0) (w .0) s h (omega (arith, length-append (pieceOf x) (piecesOf xs)))) (pieces-fine xs (v .1) (w .1))
+
+clock-inside : (c : Clock) (s : Scan) → ClockOk c → s .phase ≡ P.Opened → s .place + length (clockOf c) < 4194303 → Widths (clockOf c) → Inside s (clockOf c) (s .left) innerAt
+unfolding after innerAt
+clock-inside no-clock s v e l f = inside-none s innerAt (ap innerAt e)
+clock-inside (clock27 r) s v e l f = step s _ [] (s .left) innerAt (omega arith) (rw e) refl refl refl (f .0) refl (λ k. inside-none _ innerAt refl)
+clock-inside (clock48 r high) s v e l f =
+    step s _ _ (s .left) innerAt (omega arith) (rw e) refl refl refl (f .0) refl
+    (λ k. step _ (I.ClockHigh high) [] (s .left) innerAt (omega arith) refl refl (ap not (eq-eqb _ _ v)) refl (f .1 .0) refl (λ k. inside-none _ innerAt refl))
+
+-- an event header and the trailer, wherever an event may end or begin
+edge-form : (p : Phase) → edgeAt p ≡ true → (formIn (otherIn p) (allowedIn p) 2 ≡ F.Event) × (formIn (otherIn p) (allowedIn p) 1 ≡ F.Trailer)
+unfolding edgeAt
+edge-form P.Start h = absurd (true≢false (sym h))
+edge-form P.Head h = (refl, refl)
+edge-form P.Front h = (refl, refl)
+edge-form P.Opened h = (refl, refl)
+edge-form (P.Timed d) h = (refl, refl)
+edge-form P.Items h = (refl, refl)
+edge-form (P.Window n b) h = absurd (true≢false (sym h))
+edge-form (P.Raw n) h = (rw h, rw h)
+edge-form (P.Tail n) h = absurd (true≢false (sym h))
+
+event-inside : (e : EventTree) (k : ℕ) (s : Scan) → EventOk k e → edgeAt (s .phase) ≡ true → s .slot ≡ k → 0 < s .left → s .place + length (eventOf e) < 4194303 → Widths (eventOf e)
+    → Inside s (eventOf e) (s .left - 1) innerAt
+unfolding after
+event-inside e k s v g d o l f =
+    let w = widths-split (clockOf (e .clock)) (piecesOf (e .pieces)) (f .1) in
+    step s _ _ (s .left - 1) innerAt (omega arith) (edge-form (s .phase) g .0) (ap not (eq-eqb _ _ (v .slot ∙ sym d))) refl (ne-eqb (s .left) 0 (λ q. omega arith)) (f .0) refl
+    (λ j. inside-fine _ (clockOf (e .clock)) (piecesOf (e .pieces)) (s .left - 1) (omega arith)
+    (clock-inside (e .clock) _ (v .clock) refl (omega (arith, length-append (clockOf (e .clock)) (piecesOf (e .pieces)))) (w .0)) (pieces-fine (e .pieces) (v .pieces) (w .1)))
+
+events-inside : (es : List EventTree) (k : ℕ) (s : Scan) → Each (EventOk k) es → edgeAt (s .phase) ≡ true → s .slot ≡ k → s .left ≡ length es → s .place + length (eventsOf es) < 4194303
+    → Widths (eventsOf es) → Inside s (eventsOf es) 0 edgeAt
+events-inside [] k s v g d o l f = subst (λ (n : ℕ). Inside s [] n edgeAt) o (inside-none s edgeAt g)
+events-inside (e ∷ es) k s v g d o l f =
+    let w = widths-split (eventOf e) (eventsOf es) f in
+    let n : length (eventsOf (e ∷ es)) ≡ length (eventOf e) + length (eventsOf es) = length-append (eventOf e) (eventsOf es) in
+    inside-append s (eventOf e) (eventsOf es) (s .left - 1) 0 innerAt edgeAt (event-inside e k s (v .0) g d (omega (arith, o)) (omega (arith, n)) (w .0))
+    (λ t p q r h. events-inside es k t (v .1) (inner-edge (t .phase) h) (q ∙ d) (omega (arith, r, o)) (omega (arith, n, p)) (w .1))
+
+-- ---- a block
+
+setup-inside : (u : Setup) (s : Scan) → s .phase ≡ P.Head → s .place + length (setupOf u) < 4194303 → Widths (setupOf u) → Inside s (setupOf u) (s .left) edgeAt
+unfolding after edgeAt
+setup-inside no-setup s e l f = inside-none s edgeAt (ap edgeAt e)
+setup-inside (setup r) s e l f = step s _ [] (s .left) edgeAt (omega arith) (ap moreIn e) refl refl refl (f .0) refl (λ k. inside-none _ edgeAt refl)
+
+fillers-follow : (fs : List Filler) (n k : ℕ) (s : Scan) → Each (λ f. f .slot ≡ k) fs → s .phase ≡ P.Tail n → s .slot ≡ k → length fs ≤ n → Widths (map (λ f. I.Filler f) fs)
+    → Follow s (map (λ f. I.Filler f) fs)
+unfolding after atLimit
+fillers-follow [] n k s v e d l f = ap unfinished e
+fillers-follow (x ∷ fs) n k s v e d l f =
+    let here : Stands s (I.Filler x) =
+    record { limit = rw e; type = rw (e, ne-eqb n 0 (λ q. omega arith)); slot = ap not (eq-eqb _ _ (v .0 ∙ sym d)); fields = refl; count = refl; widths = f .0 } in
+    (here, fillers-follow fs (n - 1) k _ (v .1) (ap filled e) d (omega arith) (f .1))
+
+follow-behind : (xs ys : List Item) (s t : Scan) → Passes s xs t → Follow t ys → Follow s (xs ++ ys)
+follow-behind [] ys s t p q = subst (λ (v : Scan). Follow v ys) (sym p) q
+follow-behind (x ∷ xs) ys s t p q = (p .0, follow-behind xs ys (after s x) t (p .1) q)
+
+events-within : (r : BlockHeader) → 1 ≤ r .events → fits (I.Block r) ≡ true → W.blockHeaderWithin r ≡ true
+unfolding fits W.blockHeader W.blockHeaderWithin
+events-within r h f = both (le-leb 1 (r .events) h) (and-right (leb (r .number) 1023) _ (and-right (leb (r .slot) 31) _ f))
+
+words-bound : (r : BlockTrailer) → fits (I.Trailer r) ≡ true → r .words ≤ 4194303
+unfolding fits W.trailer
+words-bound r f = leb-true (r .words) 4194303 (and-right (leb (r .slot) 31) _ f)
+
+block-follows : (b : BlockTree) → BlockOk b → Widths (recordsOf (block b)) → IsBlock (recordsOf (block b))
+unfolding after onward atLimit
+block-follows b v f =
+    let xs : List Item = setupOf (b .setup) ++ eventsOf (b .events) in
+    let w = widths-split (bodyOf b) _ f in
+    let u = widths-split (setupOf (b .setup)) (eventsOf (b .events)) (w .0 .1) in
+    let n : length xs ≡ length (setupOf (b .setup)) + length (eventsOf (b .events)) = length-append (setupOf (b .setup)) (eventsOf (b .events)) in
+    let m : b .trailer .words ≤ 4194303 = words-bound (b .trailer) (w .1 .0) in
+    let s : Scan = after startOf (I.Block (b .header)) in
+    let a : Inside s xs 0 edgeAt =
+    inside-append s (setupOf (b .setup)) (eventsOf (b .events)) (b .header .events) 0 edgeAt edgeAt
+    (setup-inside (b .setup) s refl (omega (arith, v .count, n, m)) (u .0))
+    (λ t p q r h. events-inside (b .events) (b .header .slot) t (v .events) h q (r ∙ sym (v .stated)) (omega (arith, p, v .count, n, m)) (u .1)) in
+    let k : b .trailer .words ≡ a .to .place + 1 = omega (arith, v .count, a .place) in
+    let head : Stands startOf (I.Block (b .header)) =
+    record { limit = refl; type = refl; slot = refl; fields = ap not (events-within (b .header) (v .some) (w .0 .0)); count = refl; widths = w .0 .0 } in
+    let end : Stands (a .to) (I.Trailer (b .trailer)) =
+    record {
+      limit = not-limit (a .to) (omega arith);
+      type = edge-form (a .to .phase) (a .phase) .1;
+      slot = ap not (eq-eqb _ _ (v .slot ∙ sym (a .slot)));
+      fields = refl;
+      count = rw (eq-eqb (a .to .left) 0 (a .rest), eq-eqb (b .trailer .words) (a .to .place + 1) k);
+      widths = w .1 .0;
+    } in
+    (head, follow-behind xs _ s (a .to) (a .passes) (end, fillers-follow (b .fillers) 3 (b .header .slot) _ (v .fillers) refl (a .slot) (v .few) (w .1 .1)))
+
+-- the records of a well-formed tree stand as the layout asks
+pub tree-is-block : (t : Tree) → WellFormed t → IsBlock (recordsOf t)
+unfolding after atLimit
+tree-is-block (block b) w = block-follows b (w .tree) (w .widths)
+tree-is-block (empty r) w = (record { limit = refl; type = refl; slot = refl; fields = refl; count = refl; widths = w .widths .0 }, refl)
