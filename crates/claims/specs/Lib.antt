@@ -19,3 +19,4 @@ pub mod ReadsLaws
 pub mod Unique
 pub mod Grammar
 pub mod GrammarLaws
+pub mod ParseLaws

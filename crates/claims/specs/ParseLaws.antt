@@ -1,0 +1,362 @@
+-- A block of the layout has its tree: records that stand as the reader's phases ask are those of a well-formed tree of the grammar. Assumes nothing.
+use Prim.Native.Nat.{ℕ, zero, suc, _+_, _-_, _%_, _≤_, _<_}
+use mathlib.Core.Path.{_≡_, refl, sym, ap, _∙_, subst}
+use mathlib.Core.Bool.{Bool, true, false, not, cond, _&&_, _||_, true≢false}
+use mathlib.Core.List.{List, [], _∷_, _++_, map}
+use native.Mathlib.Omega.{arith}
+use borrow.Author.Tests.{leb-true, leb-false, eqb-true, eqb-false, ne-eqb, not-false}
+use lib.Dec.{eqb, leb, ltb}
+use lib.ListN.{length, length-append}
+use Rattle.ground.specs.TestsLaws.{and-left, and-right}
+use Rattle.frame.specs.declared.block_header.BlockHeader.{BlockHeader}
+use Rattle.frame.specs.declared.trailer.BlockTrailer.{BlockTrailer}
+use Rattle.frame.specs.declared.event_header.EventHeader.{EventHeader}
+use Rattle.frame.specs.declared.trigger_time.TriggerTime.{TriggerTime}
+use Rattle.frame.specs.declared.filler.Filler.{Filler}
+use Rattle.frame.specs.Words as W
+use Rattle.raw.specs.declared.pair.SamplePair.{SamplePair}
+use Rattle.raw.specs.Words as R
+use Rattle.items.specs.Items.{fits}
+use Rattle.items.specs.declared.Form.{Form}
+use Rattle.items.specs.declared.Form.the-variants as F
+use Rattle.items.specs.declared.Item.{Item}
+use Rattle.items.specs.declared.Item.the-variants as I
+use Rattle.reader.specs.declared.Phase.{Phase}
+use Rattle.reader.specs.declared.Phase.the-variants as P
+use Rattle.reader.specs.declared.Scan.{Scan}
+use Rattle.reader.specs.Reader.{mostPairs, pairsOf as pairCount, moreIn, edges, inner, allowedIn, otherIn, formIn, unfinished, isNo, isEnd, flagWrong, timeWrong, onward, paired, filled, after, startOf}
+use Rattle.claims.specs.Layout.{Stands, Follow, IsBlock}
+use Rattle.claims.specs.Grammar.{Piece, window, raw, integral, time, pedestal, no-clock, clock27, clock48, EventTree, Setup, no-setup, setup, Tree, block, empty, pairsOf, pieceOf, piecesOf, clockOf, eventsOf, setupOf, recordsOf, Each, BothValid, OddEnd, WindowPairs, LastPair, whole, odd, RawPairs, PieceOk, ClockOk, EventOk, TreeOk, WellFormed}
+
+-- ---- the rest of the records, by where the reading stands
+
+-- at most n fillers
+record Fillers (n k : ℕ) (xs : List Item) : Type 0 where
+  fillers : List Filler
+  few : length fillers ≤ n
+  same : Each (λ f. f .slot ≡ k) fillers
+  are : map (λ f. I.Filler f) fillers ≡ xs
+
+-- the records `front`, `left` events, the trailer and fillers; xs begin at that place, which the trailer's 22 bits bound
+record Ending (k left place : ℕ) (front xs : List Item) : Type 0 where
+  events : List EventTree
+  stated : length events ≡ left
+  each : Each (EventOk k) events
+  trailer : BlockTrailer
+  slot : trailer .slot ≡ k
+  later : place < trailer .words
+  most : trailer .words ≤ 4194303
+  behind : List Item
+  fillers : Fillers 3 k behind
+  count : trailer .words + length behind ≡ place + length xs
+  are : (front ++ eventsOf events) ++ (I.Trailer trailer ∷ behind) ≡ xs
+
+-- the same with a front of a kind
+record Rest (L : List Item → Type 0) (k left place : ℕ) (xs : List Item) : Type 0 where
+  front : List Item
+  lead : L front
+  ending : Ending k left place front xs
+
+-- what is left of an event: `first`, then pieces
+record Then {A : Type 0} (of : A → List Item) (ok : A → Type 0) (ys : List Item) : Type 0 where
+  first : A
+  fine : ok first
+  pieces : List Piece
+  each : Each PieceOk pieces
+  are : of first ++ piecesOf pieces ≡ ys
+
+-- the kinds: nothing, what is left of a block's head, of an event with its time, of a window's n pairs, of at most n pairs of type 6
+abbrev Nothing : List Item → Type 0
+Nothing ys = [] ≡ ys
+
+abbrev Begun : List Item → Type 0
+Begun ys = (p : Setup) × (setupOf p ≡ ys)
+
+abbrev Pieces : List Item → Type 0
+Pieces ys = Then {A = Unit {0}} (λ u. []) (λ u. Unit {0}) ys
+
+abbrev Clocked : List Item → Type 0
+Clocked ys = Then clockOf ClockOk ys
+
+abbrev Timed : ℕ → List Item → Type 0
+Timed d ys = (r : TriggerTime) → r .middle ≡ d → Clocked (I.Clock r ∷ ys)
+
+abbrev Windowed : ℕ → Bool → List Item → Type 0
+Windowed n b ys = (w : ℕ) → 1 ≤ w → pairCount w ≡ n → eqb (w % 2) 1 ≡ b → Then pairsOf (WindowPairs w) ys
+
+abbrev RawLeft : ℕ → List SamplePair → Type 0
+RawLeft n ps = (length ps ≤ n) × (ltb n mostPairs ≡ false → 1 ≤ length ps) × (1 ≤ length ps → RawPairs ps)
+
+abbrev Made : List Item → Type 0
+Made xs = (t : Tree) × TreeOk t × (recordsOf t ≡ xs)
+
+abbrev Led : Scan → (List Item → Type 0) → List Item → Type 0
+Led s L xs = Rest L (s .slot) (s .left) (s .place) xs
+
+-- what the records look like from a phase on
+abbrev Shape : Phase → Scan → List Item → Type 0
+Shape P.Start s xs = s .place ≡ 0 → Made xs
+Shape P.Head s xs = Led s Begun xs
+Shape P.Front s xs = Led s Nothing xs
+Shape P.Opened s xs = Led s Clocked xs
+Shape (P.Timed d) s xs = Led s (Timed d) xs
+Shape P.Items s xs = Led s Pieces xs
+Shape (P.Window n b) s xs = Led s (Windowed n b) xs
+Shape (P.Raw n) s xs = Led s (Then pairsOf (RawLeft n)) xs
+Shape (P.Tail n) s xs = Fillers n (s .slot) xs
+
+abbrev Here : Scan → List Item → Type 0
+Here s xs = Shape (s .phase) s xs
+
+-- ---- one more record before the rest
+
+more : {k old : ℕ} {front xs : List Item} (x : Item) (left place : ℕ) (before : List Item) (es : List EventTree) (r : Ending k old (onward place) front xs) → length es ≡ left → Each (EventOk k) es
+    → before ++ eventsOf es ≡ x ∷ (front ++ eventsOf (r .events)) → Ending k left place before (x ∷ xs)
+unfolding onward
+more x left place before es r n e q =
+    let a = ap (λ (l : List Item). l ++ (I.Trailer (r .trailer) ∷ r .behind)) q ∙ ap (λ (l : List Item). x ∷ l) (r .are) in
+    record { events = es; stated = n; each = e; trailer = r .trailer; slot = r .slot; later = omega arith; most = r .most; behind = r .behind; fillers = r .fillers; count = omega arith; are = a }
+
+keep : {L M : List Item → Type 0} {k left : ℕ} {xs : List Item} (x : Item) (place : ℕ) → Rest L k left (onward place) xs → ((ys : List Item) → L ys → M (x ∷ ys))
+    → Rest M k left place (x ∷ xs)
+keep x place r f = let e = r .ending in record { front = x ∷ r .front; lead = f (r .front) (r .lead); ending = more x _ place (x ∷ r .front) (e .events) e (e .stated) (e .each) refl }
+
+turn : {L M : List Item → Type 0} {k left place : ℕ} {xs : List Item} → Rest L k left place xs → ((ys : List Item) → L ys → M ys) → Rest M k left place xs
+turn r f = record { front = r .front; lead = f (r .front) (r .lead); ending = r .ending }
+
+-- records that join what comes first
+join : {A B : Type 0} {of : A → List Item} {to : B → List Item} {ok : A → Type 0} {good : B → Type 0} {ys : List Item} (xs : List Item) (t : Then of ok ys) (b : B) → good b
+    → to b ++ piecesOf (t .pieces) ≡ xs ++ (of (t .first) ++ piecesOf (t .pieces)) → Then to good (xs ++ ys)
+join xs t b o q = record { first = b; fine = o; pieces = t .pieces; each = t .each; are = q ∙ ap (λ (l : List Item). xs ++ l) (t .are) }
+
+-- a record that makes a piece with what comes first
+piece : {A : Type 0} {of : A → List Item} {ok : A → Type 0} {k left : ℕ} {xs : List Item} (x : Item) (place : ℕ) → Rest (Then of ok) k left (onward place) xs → (g : A → Piece)
+    → ((a : A) → pieceOf (g a) ≡ x ∷ of a) → ((a : A) → ok a → PieceOk (g a)) → Rest Pieces k left place (x ∷ xs)
+piece x place r g w f =
+    keep x place r (λ ys t. let a = ap (λ (l : List Item). l ++ piecesOf (t .pieces)) (w (t .first)) ∙ ap (λ (l : List Item). x ∷ l) (t .are) in
+    record { first = tt; fine = tt; pieces = g (t .first) ∷ t .pieces; each = (f (t .first) (t .fine), t .each); are = a })
+
+-- ---- where a record may stand
+
+alike : (a b : ℕ) → not (eqb a b) ≡ false → a ≡ b
+alike a b h = eqb-true a b (not-false (eqb a b) h)
+
+not-no : {A : Type 0} {f : Form} → isNo f ≡ false → F.No ≡ f → A
+not-no r e = absurd (true≢false (ap isNo e ∙ r))
+
+not-end : {A : Type 0} {f : Form} → isEnd f ≡ false → F.End ≡ f → A
+not-end r e = absurd (true≢false (ap isEnd e ∙ r))
+
+-- a record with a type, by the lists of types that are allowed in some phase
+at : (s : Scan) (xs : List Item) (type : ℕ) {f : Form} → isNo f ≡ false → isEnd f ≡ false → formIn (otherIn (s .phase)) (allowedIn (s .phase)) type ≡ f
+    → (formIn F.No (F.Block ∷ F.Empty ∷ []) type ≡ f → s .place ≡ 0 → Made xs) → (formIn F.No edges type ≡ f → Led s Nothing xs) → (formIn F.No (F.Clock ∷ inner) type ≡ f → Led s Clocked xs)
+    → (formIn F.No inner type ≡ f → Led s Pieces xs) → ((n : ℕ) → s .phase ≡ P.Tail n → eqb n 0 ≡ false → formIn F.End (F.Filler ∷ []) type ≡ f → Fillers n (s .slot) xs) → Here s xs
+at s xs type {f} u v e start edge opened inside tail = go (s .phase) refl e
+  where
+    go : (p : Phase) → s .phase ≡ p → formIn (otherIn p) (allowedIn p) type ≡ f → Shape p s xs
+    go P.Start m e = start e
+    go P.Head m e = turn (edge e) (λ ys q. (no-setup, q))
+    go P.Front m e = edge e
+    go P.Opened m e = opened e
+    go (P.Timed d) m e = turn (inside e) (λ ys t r q. join (I.Clock r ∷ []) t (clock27 r) tt refl)
+    go P.Items m e = inside e
+    go (P.Window n b) m e = not-no u e
+    go (P.Raw n) m e = some (ltb n mostPairs) refl e
+      where
+        some : (b : Bool) → ltb n mostPairs ≡ b → formIn F.No (cond b inner []) type ≡ f → Led s (Then pairsOf (RawLeft n)) xs
+        some true l e = turn (inside e) (λ ys t. join [] t [] (omega arith, λ z. absurd (true≢false (sym l ∙ z)), λ z. absurd (omega arith)) refl)
+        some false l e = not-no u e
+    go (P.Tail n) m e = some (eqb n 0) refl e
+      where
+        some : (b : Bool) → eqb n 0 ≡ b → formIn F.End (cond b [] (F.Filler ∷ [])) type ≡ f → Fillers n (s .slot) xs
+        some true z e = not-end v e
+        some false z e = tail n m z e
+
+-- a record of an event, or at its edge
+item : (s : Scan) (xs : List Item) (type : ℕ) {f : Form} → isNo f ≡ false → isEnd f ≡ false → formIn F.No (F.Block ∷ F.Empty ∷ []) type ≡ F.No → formIn F.End (F.Filler ∷ []) type ≡ F.End
+    → formIn (otherIn (s .phase)) (allowedIn (s .phase)) type ≡ f → (formIn F.No edges type ≡ f → Led s Nothing xs) → Led s Pieces xs → Here s xs
+item s xs type u v i j e a b =
+    at s xs type u v e (λ q. not-no u (sym i ∙ q)) a (λ q. turn b (λ ys t. join [] t no-clock tt refl)) (λ q. b) (λ n m z q. not-end v (sym j ∙ q))
+
+edge : {k left place : ℕ} {xs : List Item} → Rest Nothing k left place xs → Rest Pieces k left place xs
+edge a = turn a (λ ys n. record { first = tt; fine = tt; pieces = []; each = tt; are = n })
+
+-- a record with none, by what a continuation is in each phase
+next : (S : Phase → Type 0) (p : Phase) {f : Form} → isNo f ≡ false → isEnd f ≡ false → moreIn p ≡ f → (F.Parameters ≡ f → S P.Head) → ((d : ℕ) → F.ClockHigh ≡ f → S (P.Timed d))
+    → ((n : ℕ) (b : Bool) → F.Pair ≡ f → S (P.Window n b)) → ((n : ℕ) → F.Pair ≡ f → eqb n 0 ≡ false → S (P.Raw n)) → S p
+next S p {f} u v e head timed windowed rawed = go p e
+  where
+    go : (p : Phase) → moreIn p ≡ f → S p
+    go P.Start e = not-no u e
+    go P.Head e = head e
+    go P.Front e = not-no u e
+    go P.Opened e = not-no u e
+    go (P.Timed d) e = timed d e
+    go P.Items e = not-no u e
+    go (P.Window n b) e = windowed n b e
+    go (P.Raw n) e = some (eqb n 0) refl e
+      where
+        some : (b : Bool) → eqb n 0 ≡ b → cond b F.No F.Pair ≡ f → S (P.Raw n)
+        some true z e = not-no u e
+        some false z e = rawed n e z
+    go (P.Tail n) e = not-end v e
+
+-- ---- pairs
+
+or-none : (a b : Bool) → (a || b) ≡ false → (a ≡ false) × (b ≡ false)
+or-none true b h = absurd (true≢false h)
+or-none false b h = (refl, h)
+
+pair-is : (p : SamplePair) (a b c d : Bool) → eqb (p .nofirst) 0 ≡ a → eqb (p .nosecond) 1 ≡ b → eqb (p .second) 0 ≡ c → fits (I.Pair p) ≡ true → (not a || ((b && not c) || d)) ≡ false
+    → LastPair p × (d ≡ false)
+unfolding fits R.pair
+pair-is p true true true d x y z l h = (odd (record { first = eqb-true (p .nofirst) 0 x; second = eqb-true (p .nosecond) 1 y; zero = eqb-true (p .second) 0 z }), h)
+pair-is p true true false d x y z l h = absurd (true≢false h)
+pair-is p true false c d x y z l h =
+    let m : leb (p .nosecond) 1 ≡ true = and-left (leb (p .nosecond) 1) _ (and-right (leb (p .first) 8191) _ (and-right (leb (p .nofirst) 1) _ l)) in
+    (whole (record { first = eqb-true (p .nofirst) 0 x; second = omega (arith, leb-true (p .nosecond) 1 m, eqb-false (p .nosecond) 1 y) }), h)
+pair-is p false b c d x y z l h = absurd (true≢false h)
+
+ends : {p : SamplePair} → LastPair p → (p .nosecond ≡ 1 → OddEnd p) × (p .nosecond ≡ 0 → BothValid p)
+ends (whole h) = (λ e. absurd (omega (arith, h .second)), λ e. h)
+ends (odd h) = (λ e. h, λ e. absurd (omega (arith, h .second)))
+
+pair-first : {ok good : List SamplePair → Type 0} {ys : List Item} (p : SamplePair) → Then pairsOf ok ys → ((ps : List SamplePair) → ok ps → good (p ∷ ps)) → Then pairsOf good (I.Pair p ∷ ys)
+pair-first p t f = join (I.Pair p ∷ []) t (p ∷ t .first) (f (t .first) (t .fine)) refl
+
+-- a window's pair, where n were still to come
+window-last : (n : ℕ) (b : Bool) (p : SamplePair) (ys : List Item) → LastPair p → p .nosecond ≡ cond (eqb n 1 && b) 1 0 → n ≤ 1 → Pieces ys → Windowed n b (I.Pair p ∷ ys)
+unfolding pairCount
+window-last n b p ys l f h t zero o c d = absurd (omega arith)
+window-last n b p ys l f h t (suc zero) o c d = join (I.Pair p ∷ []) t (p ∷ []) (ends l .0 (f ∙ rw (← c, ← d))) refl
+window-last n b p ys l f h t (suc (suc zero)) o c d = join (I.Pair p ∷ []) t (p ∷ []) (ends l .1 (f ∙ rw (← c, ← d)), tt) refl
+window-last n b p ys l f h t (suc (suc (suc w))) o c d = absurd (omega arith)
+
+window-more : (n : ℕ) (b : Bool) (p : SamplePair) (ys : List Item) → LastPair p → p .nosecond ≡ cond (eqb n 1 && b) 1 0 → 1 < n → Windowed (n - 1) b ys → Windowed n b (I.Pair p ∷ ys)
+unfolding pairCount
+window-more n b p ys l f h t zero o c d = absurd (omega arith)
+window-more n b p ys l f h t (suc zero) o c d = absurd (omega arith)
+window-more n b p ys l f h t (suc (suc w)) o c d =
+    let m : (n ≡ 1 → ⊥) = λ e. omega arith in
+    let q : suc (suc w) % 2 ≡ w % 2 = omega arith in
+    pair-first p (t w (omega arith) (omega arith) (ap (λ (j : ℕ). eqb j 1) (sym q) ∙ d)) (λ ps k. (ends l .1 (f ∙ rw (ne-eqb n 1 m)), k))
+
+raw-more : (n : ℕ) (p : SamplePair) (ps : List SamplePair) → 1 ≤ n → LastPair p → RawLeft (cond (eqb (p .nosecond) 1) 0 (n - 1)) ps → RawLeft n (p ∷ ps)
+raw-more n p [] o l h = (o, λ z. omega arith, λ z. l)
+raw-more n p (q ∷ ps) o (whole w) h = let l : length (q ∷ ps) ≤ n - 1 = rw (w .second) at (h .0) in (omega arith, λ z. omega arith, λ z. (w, h .2 (omega arith)))
+raw-more n p (q ∷ ps) o (odd w) h = let l : length (q ∷ ps) ≤ 0 = rw (w .second) at (h .0) in absurd (omega arith)
+
+-- ---- one record and the rest
+
+trailer-first : (s : Scan) (r : BlockTrailer) (xs : List Item) → Stands s (I.Trailer r) → Fillers 3 (s .slot) xs → Led s Nothing (I.Trailer r ∷ xs)
+unfolding fits W.trailer
+trailer-first s r xs h q =
+    let c = or-none _ _ (h .count) in
+    let l = alike (s .left) 0 (c .0) in
+    let w = alike (r .words) (s .place + 1) (c .1) in
+    let m = leb-true (r .words) 4194303 (and-right (leb (r .slot) 31) _ (h .widths)) in
+    let k = alike (r .slot) (s .slot) (h .slot) in
+    record { front = []; lead = refl; ending = record { events = []; stated = sym l; each = tt; trailer = r; slot = k; later = omega arith; most = m; behind = xs; fillers = q; count = omega arith; are = refl } }
+
+event-first : (s : Scan) (r : EventHeader) (xs : List Item) → Stands s (I.Event r) → Rest Clocked (s .slot) (s .left - 1) (onward (s .place)) xs → Led s Nothing (I.Event r ∷ xs)
+event-first s r xs h q =
+    let t = q .lead in
+    let e = q .ending in
+    let v : EventTree = record { header = r; clock = t .first; pieces = t .pieces } in
+    let k : EventOk (s .slot) v = record { slot = alike (r .slot) (s .slot) (h .slot); clock = t .fine; pieces = t .each } in
+    let a = ap (λ (l : List Item). I.Event r ∷ (l ++ eventsOf (e .events))) (t .are) in
+    record { front = []; lead = refl; ending = more (I.Event r) (s .left) (s .place) [] (v ∷ e .events) e (omega (arith, e .stated, eqb-false (s .left) 0 (h .count))) (k, e .each) a }
+
+block-first : (s : Scan) (r : BlockHeader) (xs : List Item) → Stands s (I.Block r) → Rest Begun (r .slot) (r .events) (onward (s .place)) xs → s .place ≡ 0 → Made (I.Block r ∷ xs)
+unfolding onward W.blockHeaderWithin
+block-first s r xs h q z =
+    let e = q .ending in
+    let b = setupOf (q .lead .0) ++ eventsOf (e .events) in
+    let fs = map (λ f. I.Filler f) (e .fillers .fillers) in
+    let a : b ++ (I.Trailer (e .trailer) ∷ fs) ≡ xs = cc in
+    let c : e .trailer .words ≡ suc (length b) + 1 = omega (arith, e .count, length-append b (I.Trailer (e .trailer) ∷ fs), ap length a, ap length (e .fillers .are)) in
+    let o = leb-true 1 (r .events) (and-left _ _ (not-false _ (h .fields))) in
+    let t = block (record { header = r; setup = q .lead .0; events = e .events; trailer = e .trailer; fillers = e .fillers .fillers }) in
+    let k : TreeOk t = record { some = o; stated = e .stated; events = e .each; count = c; slot = e .slot; few = e .fillers .few; fillers = e .fillers .same } in
+    (t, k, ap (λ (l : List Item). I.Block r ∷ l) a)
+
+none-left : (fs : List Filler) (xs : List Item) → length fs ≤ 0 → map (λ f. I.Filler f) fs ≡ xs → [] ≡ xs
+none-left [] xs l e = e
+none-left (f ∷ fs) xs l e = absurd (omega arith)
+
+differ : {A : Type 0} → _≡_ {A = ℕ} 0 1 → A
+differ e = absurd (omega arith)
+
+one-more : (s : Scan) (x : Item) (xs : List Item) → Stands s x → Here (after s x) xs → Here s (x ∷ xs)
+unfolding after mostPairs R.windowWithin
+one-more s (I.Block r) xs h q = at s _ 0 refl refl (h .type) (λ e. block-first s r xs h q) (not-no refl) (not-no refl) (not-no refl) (λ n m z. not-end refl)
+one-more s (I.Parameters r) xs h q =
+    next (λ p. Shape p s (I.Parameters r ∷ xs)) (s .phase) refl refl (h .type) (λ e. keep (I.Parameters r) (s .place) q (λ ys n. (setup r, ap (λ (l : List Item). I.Parameters r ∷ l) n)))
+    (λ d e. differ (cc)) (λ n b e. differ (cc)) (λ n e z. differ (cc))
+one-more s (I.Trailer r) xs h q = item s _ 1 refl refl refl refl (h .type) (λ e. trailer-first s r xs h q) (edge (trailer-first s r xs h q))
+one-more s (I.Event r) xs h q = item s _ 2 refl refl refl refl (h .type) (λ e. event-first s r xs h q) (edge (event-first s r xs h q))
+one-more s (I.Clock r) xs h q =
+    at s _ 3 refl refl (h .type) (not-no refl) (not-no refl) (λ e. keep (I.Clock r) (s .place) q (λ ys t. t r refl)) (not-no refl) (λ n m z. not-end refl)
+one-more s (I.ClockHigh r) xs h q =
+    next (λ p. timeWrong p (r .high) ≡ false → Shape p s (I.ClockHigh r ∷ xs)) (s .phase) refl refl (h .type) (λ e. differ (cc))
+    (λ d e f. keep (I.ClockHigh r) (s .place) q (λ ys t c m. join (I.Clock c ∷ I.ClockHigh r ∷ []) t (clock48 c r) (alike (r .high % 8) d f ∙ sym m) refl))
+    (λ n b e. differ (cc)) (λ n e z. differ (cc)) (h .fields)
+one-more s (I.Window r) xs h q =
+    let f = not-false (R.windowWithin r) (h .fields) in
+    let l = leb-true 1 (r .width) (and-left _ _ f) in
+    item s _ 4 refl refl refl refl (h .type) (not-no refl)
+    (piece (I.Window r) (s .place) (turn q (λ ys t. t (r .width) l refl refl)) (window r) (λ ps. refl) (λ ps o. (l, (leb-true (r .width) 500 (and-right (leb 1 (r .width)) _ f), o))))
+one-more s (I.Raw r) xs h q = item s _ 6 refl refl refl refl (h .type) (not-no refl) (piece (I.Raw r) (s .place) q (raw r) (λ ps. refl) (λ ps o. (o .0, o .2 (o .1 refl))))
+one-more s (I.Pair r) xs h q =
+    let o = pair-is r (eqb (r .nofirst) 0) (eqb (r .nosecond) 1) (eqb (r .second) 0) (flagWrong (s .phase) (r .nosecond)) refl refl refl (h .widths) (h .fields) in
+    next (λ p. flagWrong p (r .nosecond) ≡ false → Shape (paired p (r .nosecond)) (after s (I.Pair r)) xs → Shape p s (I.Pair r ∷ xs)) (s .phase) refl refl (h .type)
+    (λ e. differ (cc)) (λ d e. differ (cc))
+    (λ n b e f. in-window n b (o .0) (alike (r .nosecond) (cond (eqb n 1 && b) 1 0) f) (leb n 1) refl)
+    (λ n e z f q. keep (I.Pair r) (s .place) q (λ ys t. pair-first r t (λ ps. raw-more n r ps (omega (arith, eqb-false n 0 z)) (o .0))))
+    (o .1) q
+  where
+    in-window : (n : ℕ) (b : Bool) → LastPair r → r .nosecond ≡ cond (eqb n 1 && b) 1 0 → (d : Bool) → leb n 1 ≡ d
+        → Shape (cond d P.Items (P.Window (n - 1) b)) (after s (I.Pair r)) xs → Led s (Windowed n b) (I.Pair r ∷ xs)
+    in-window n b l f true z q = keep (I.Pair r) (s .place) q (λ ys. window-last n b r ys l f (leb-true n 1 z))
+    in-window n b l f false z q = keep (I.Pair r) (s .place) q (λ ys. window-more n b r ys l f (leb-false n 1 z))
+one-more s (I.Integral r) xs h q = item s _ 7 refl refl refl refl (h .type) (not-no refl) (piece (I.Integral r) (s .place) q (λ u. integral r) (λ u. refl) (λ u o. tt))
+one-more s (I.Time r) xs h q = item s _ 8 refl refl refl refl (h .type) (not-no refl) (piece (I.Time r) (s .place) q (λ u. time r) (λ u. refl) (λ u o. tt))
+one-more s (I.Pedestal r) xs h q = item s _ 10 refl refl refl refl (h .type) (not-no refl) (piece (I.Pedestal r) (s .place) q (λ u. pedestal r) (λ u. refl) (λ u o. tt))
+one-more s (I.Empty r) xs h q = at s _ 14 refl refl (h .type) (λ e z. (empty r, tt, ap (λ (l : List Item). I.Empty r ∷ l) (none-left (q .fillers) xs (q .few) (q .are)))) (not-no refl) (not-no refl) (not-no refl) (λ n m z. not-end refl)
+one-more s (I.Filler r) xs h q =
+    at s _ 15 refl refl (h .type) (not-no refl) (not-no refl) (not-no refl) (not-no refl)
+    (λ n m z e. let t : Fillers (n - 1) (s .slot) xs = subst (λ (p : Phase). Shape (filled p) (after s (I.Filler r)) xs) m q in
+    record { fillers = r ∷ t .fillers; few = omega (arith, t .few, eqb-false n 0 z); same = (alike (r .slot) (s .slot) (h .slot), t .same); are = ap (λ (l : List Item). I.Filler r ∷ l) (t .are) })
+
+-- ---- all records
+
+no-more : (p : Phase) (s : Scan) → unfinished p ≡ false → Shape p s []
+no-more P.Start s h = absurd (true≢false h)
+no-more P.Head s h = absurd (true≢false h)
+no-more P.Front s h = absurd (true≢false h)
+no-more P.Opened s h = absurd (true≢false h)
+no-more (P.Timed d) s h = absurd (true≢false h)
+no-more P.Items s h = absurd (true≢false h)
+no-more (P.Window n b) s h = absurd (true≢false h)
+no-more (P.Raw n) s h = absurd (true≢false h)
+no-more (P.Tail n) s h = record { fillers = []; few = omega arith; same = tt; are = refl }
+
+shape-of : (s : Scan) (xs : List Item) → Follow s xs → Here s xs
+shape-of s [] h = no-more (s .phase) s h
+shape-of s (x ∷ xs) h = one-more s x xs (h .0) (shape-of (after s x) xs (h .1))
+
+widths-of : (s : Scan) (xs : List Item) → Follow s xs → Each (λ x. fits x ≡ true) xs
+widths-of s [] h = tt
+widths-of s (x ∷ xs) h = (h .0 .widths, widths-of (after s x) xs (h .1))
+
+-- the tree of a block, with its records
+pub record Parsed (xs : List Item) : Type 0 where
+  pub tree : Tree
+  pub formed : WellFormed tree
+  pub are : recordsOf tree ≡ xs
+
+-- records that stand as the layout asks are those of a well-formed tree
+pub block-has-tree : (xs : List Item) → IsBlock xs → Parsed xs
+block-has-tree xs h =
+    let (t, k, e) = shape-of startOf xs h refl in
+    record { tree = t; formed = record { tree = k; widths = subst (λ (ys : List Item). Each (λ x. fits x ≡ true) ys) (sym e) (widths-of startOf xs h) }; are = e }
