@@ -1,4 +1,5 @@
 pub mod Refused
+pub mod Tables
 pub mod Order
 pub mod OrderLaws
 pub mod Own

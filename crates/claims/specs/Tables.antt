@@ -1,0 +1,149 @@
+-- Demand 1: "a refusal has the table's number, exactly when the table says". One law for all tables, a line for each call; the tables read in the order
+-- that document 01 names; and what an accepted call gives is never refused for its ranges. Assumes nothing.
+use Prim.Native.Nat.{ℕ, _≤_}
+use mathlib.Core.Path.{_≡_, refl, sym, ap, _∙_}
+use mathlib.Core.Bool.{Bool, true, false, not, cond}
+use mathlib.Core.List.{List, [], _∷_, map}
+use lib.Dec.{eqb}
+use lib.ListN.{length}
+use Rattle.ground.specs.Tests.{firstOf}
+use Rattle.ground.specs.TestsLaws.{FirstIs, first-is, is-first}
+use Rattle.settings.specs.declared.Settings.{Settings}
+use Rattle.settings.specs.Ranges.{settingsOk}
+use Rattle.settings.specs.Refusal.{numberOf}
+use Rattle.finder.specs.Call.{findTable, findNumber, FindSays}
+use Rattle.finder.specs.declared.Answer as A
+use Rattle.items.specs.declared.Form.{Form}
+use Rattle.reader.specs.declared.Scan.{Scan}
+use Rattle.reader.specs.Reader.{refusals, refusalOf}
+use Rattle.writer.specs.declared.State.{State}
+use Rattle.writer.specs.declared.Answer.{Answer}
+use Rattle.writer.specs.declared.Finished.{Finished}
+use Rattle.writer.specs.State.{stateOk}
+use Rattle.writer.specs.Calls.{ifAccepted, setUpNumber, openBlockTable, openBlockNumber, openEventTable, openEventNumber, postTable, postNumber, closeTable, closeNumber, finishTable, finishNumber, SetUpSays, OpenBlockSays, OpenEventSays, PostSays, CloseSays, FinishSays}
+use Rattle.writer.specs.CallsLaws.{done}
+use Rattle.writer.specs.StateLaws.{set-up-kept, open-block-kept, open-event-kept, post-kept, closing-kept, finish-kept}
+
+-- ---- in the paper's order
+
+-- "Order: 10, 7, 8, 4, 5, 6, 2, 3, 9."
+abbrev pub paperOrder : List ℕ
+paperOrder = 10 ∷ 7 ∷ 8 ∷ 4 ∷ 5 ∷ 6 ∷ 2 ∷ 3 ∷ 9 ∷ []
+
+-- the numbers of a table's rows
+abbrev pub numbersOf : List (ℕ × Bool) → List ℕ
+numbersOf rows = map (λ r. r .0) rows
+
+-- they come in that order, each at most once, some left out
+abbrev pub inOrder : List ℕ → List ℕ → Bool
+inOrder [] os = true
+inOrder (n ∷ ns) [] = false
+inOrder (n ∷ ns) (o ∷ os) = cond (eqb n o) (inOrder ns os) (inOrder (n ∷ ns) os)
+
+abbrev pub Ordered : List (ℕ × Bool) → Type 0
+Ordered rows = inOrder (numbersOf rows) paperOrder ≡ true
+
+pub open-block-order : (s : State) (room number events : ℕ) → Ordered (openBlockTable s room number events)
+unfolding openBlockTable
+open-block-order s room number events = refl
+
+pub open-event-order : (s : State) (number time : ℕ) → Ordered (openEventTable s number time)
+unfolding openEventTable
+open-event-order s number time = refl
+
+pub post-order : (s : State) (room c : ℕ) (w : List ℕ) → Ordered (postTable s room c w)
+unfolding postTable
+post-order s room c w = refl
+
+pub close-order : (s : State) (store : List ℕ) (room : ℕ) → Ordered (closeTable s store room)
+unfolding closeTable
+close-order s store room = refl
+
+pub finish-order : (s : State) (room : ℕ) → Ordered (finishTable s room)
+unfolding finishTable
+finish-order s room = refl
+
+-- "refusals 1, 4, 5, 3 in that order"
+pub find-order : (s : Settings) (c : ℕ) (w : List ℕ) → numbersOf (findTable s c w) ≡ 1 ∷ 4 ∷ 5 ∷ 3 ∷ []
+unfolding findTable
+find-order s c w = refl
+
+-- the reader, "at each word, in this order" (11, no word left, is the end's)
+pub read-order : (s : Scan) (f : Form) (word : ℕ) → numbersOf (refusals s f word) ≡ 14 ∷ 12 ∷ 15 ∷ 13 ∷ 14 ∷ []
+read-order s f word = refl
+
+-- ---- exactly when
+
+-- the number n is given if, and only if, its row holds and none before it; 0 if, and only if, no row holds (`FirstIs`)
+pub record Exactly (rows : List (ℕ × Bool)) (said : ℕ) : Type 0 where
+  pub only : (n : ℕ) → said ≡ n → FirstIs rows n
+  pub always : (n : ℕ) → FirstIs rows n → said ≡ n
+
+-- one law for all tables
+pub exactly : (rows : List (ℕ × Bool)) {said : ℕ} → said ≡ firstOf rows → Exactly rows said
+exactly rows e = record { only = λ n h. rw (sym e ∙ h) at (first-is rows); always = λ n h. e ∙ is-first h }
+
+pub set-up-exactly : (s : Settings) (r : Answer) → SetUpSays s r → Exactly ((1, not (settingsOk s)) ∷ []) (numberOf (r .refusal))
+unfolding setUpNumber
+set-up-exactly s r h = exactly _ (h .refusal)
+
+pub open-block-exactly : (s : State) (words : List ℕ) (number events : ℕ) (r : Answer) (words′ : List ℕ) → OpenBlockSays s words number events r words′
+    → Exactly (openBlockTable s (length words) number events) (numberOf (r .refusal))
+unfolding openBlockNumber
+open-block-exactly s words number events r words′ h = exactly _ (h .refusal)
+
+pub open-event-exactly : (s : State) (number time : ℕ) (r : Answer) → OpenEventSays s number time r → Exactly (openEventTable s number time) (numberOf (r .refusal))
+unfolding openEventNumber
+open-event-exactly s number time r h = exactly _ (h .refusal)
+
+pub post-exactly : (s : State) (store : List ℕ) (c : ℕ) (w : List ℕ) (r : Answer) (store′ : List ℕ) → PostSays s store c w r store′
+    → Exactly (postTable s (length store) c w) (numberOf (r .refusal))
+unfolding postNumber
+post-exactly s store c w r store′ h = exactly _ (h .refusal)
+
+pub close-exactly : (s : State) (store words : List ℕ) (r : Answer) (words′ : List ℕ) → CloseSays s store words r words′
+    → Exactly (closeTable s store (length words)) (numberOf (r .refusal))
+unfolding closeNumber
+close-exactly s store words r words′ h = exactly _ (h .refusal)
+
+pub finish-exactly : (s : State) (words : List ℕ) (r : Finished) (words′ : List ℕ) → FinishSays s words r words′ → Exactly (finishTable s (length words)) (numberOf (r .refusal))
+unfolding finishNumber
+finish-exactly s words r words′ h = exactly _ (h .refusal)
+
+pub find-exactly : (s : Settings) (c : ℕ) (w : List ℕ) (r : A.Answer) → FindSays s c w r → Exactly (findTable s c w) (numberOf (r .refusal))
+unfolding findNumber
+find-exactly s c w r h = exactly _ (h .refusal)
+
+-- a word that the reader refuses
+pub read-exactly : (s : Scan) (f : Form) (word : ℕ) → Exactly (refusals s f word) (refusalOf s f word)
+unfolding refusalOf
+read-exactly s f word = exactly _ refl
+
+-- ---- kept in range
+
+-- an accepted call's state is in its ranges: no later call refuses it with 10
+kept : {s : State} {said n : ℕ} (new old : State) → said ≡ n → said ≡ 0 → s ≡ ifAccepted n new old → (n ≡ 0 → stateOk new ≡ true) → stateOk s ≡ true
+kept new old e z is k = ap stateOk (is ∙ done new old (sym e ∙ z)) ∙ k (sym e ∙ z)
+
+pub set-up-in-range : (s : Settings) (r : Answer) → SetUpSays s r → numberOf (r .refusal) ≡ 0 → stateOk (r .state) ≡ true
+set-up-in-range s r h z = kept _ _ (h .refusal) z (h .state) (set-up-kept s)
+
+pub open-block-in-range : (s : State) (words : List ℕ) (number events : ℕ) (r : Answer) (words′ : List ℕ) → OpenBlockSays s words number events r words′
+    → numberOf (r .refusal) ≡ 0 → stateOk (r .state) ≡ true
+open-block-in-range s words number events r words′ h z = kept _ _ (h .refusal) z (h .state) (open-block-kept s (length words) number events)
+
+pub open-event-in-range : (s : State) (number time : ℕ) (r : Answer) → OpenEventSays s number time r → numberOf (r .refusal) ≡ 0 → stateOk (r .state) ≡ true
+open-event-in-range s number time r h z = kept _ _ (h .refusal) z (h .state) (open-event-kept s number time)
+
+pub post-in-range : (s : State) (store : List ℕ) (c : ℕ) (w : List ℕ) (r : Answer) (store′ : List ℕ) → PostSays s store c w r store′
+    → numberOf (r .refusal) ≡ 0 → stateOk (r .state) ≡ true
+post-in-range s store c w r store′ h z = kept _ _ (h .refusal) z (h .state) (post-kept s (length store) c w)
+
+-- the marks are the sixteen of the state's array
+pub close-in-range : (s : State) (store words : List ℕ) (r : Answer) (words′ : List ℕ) → CloseSays s store words r words′ → length (s .posted) ≤ 16
+    → numberOf (r .refusal) ≡ 0 → stateOk (r .state) ≡ true
+close-in-range s store words r words′ h m z = kept _ _ (h .refusal) z (h .state) (closing-kept s store (length words) m)
+
+pub finish-in-range : (s : State) (words : List ℕ) (r : Finished) (words′ : List ℕ) → FinishSays s words r words′ → numberOf (r .refusal) ≡ 0
+    → stateOk (r .state) ≡ true
+finish-in-range s words r words′ h z = kept _ _ (h .refusal) z (h .state) (finish-kept s (length words))
