@@ -1,12 +1,13 @@
 -- Pulses in three places, read in turn; and how many words a channel takes. Assumes nothing.
-use Prim.Native.Nat.{ℕ, zero, suc, _+_, _-_, _≤_, _<_}
+use Prim.Native.Nat.{ℕ, _+_, _-_, _≤_, _<_}
 use mathlib.Core.Path.{_≡_, refl, sym, ap, ap₂, _∙_}
-use mathlib.Core.Bool.{Bool, true, false, cond, _&&_, _||_, true≢false}
+use mathlib.Core.Bool.{Bool, true, false, cond, _&&_}
 use mathlib.Core.List.{List, [], _∷_, _++_}
 use native.Mathlib.Omega.{arith}
 use native.Mathlib.Numerals.{add-one}
 use lib.ListN.{length, getD, drop, replicate, drop-of-length-le, length-append, length-take, length-drop}
 use lib.Seq.{drop-cons, getD-take, length-take-le, take-at, sets-eq}
+use Rattle.ground.specs.TestsLaws.{or-none}
 use Rattle.settings.specs.Ranges.{mostSamples, settingsOk}
 use Rattle.settings.specs.RangesLaws.{InRange, settings-in-range}
 use Rattle.settings.specs.declared.Settings.{Settings}
@@ -125,16 +126,12 @@ module _ (m : Parts) (found : Pulses) (stored : found .count ≤ length (found .
 
 -- ---- a mode that writes nothing of a pulse
 
-or-off : (a b : Bool) → a || b ≡ false → (a ≡ false) × (b ≡ false)
-or-off true b h = absurd (true≢false h)
-or-off false b h = (refl, h)
-
 parts-off : (m : Parts) → ofPulses m ≡ false → (m .raw ≡ false) × ((m .integral ≡ false) × ((m .time ≡ false) × (m .pedestal ≡ false)))
 unfolding ofPulses
 parts-off m h =
-    let a = or-off _ (m .pedestal) h in
-    let b = or-off _ (m .time) (a .0) in
-    let c = or-off (m .raw) (m .integral) (b .0) in
+    let a = or-none _ (m .pedestal) h in
+    let b = or-none _ (m .time) (a .0) in
+    let c = or-none (m .raw) (m .integral) (b .0) in
     (c .0, (c .1, (b .1, a .1)))
 
 pulse-none : (m : Parts) (c : ℕ) (w : List ℕ) (i : ℕ) (p : Pulse) → ofPulses m ≡ false → (pulseItems m c w i p ≡ []) × (pulseLength m p ≡ 0)

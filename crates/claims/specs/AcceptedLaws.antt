@@ -1,11 +1,12 @@
 -- Demand 2: "a block that breaks the layout is refused": what the reader takes as a whole block is one of the layout. Assumes nothing.
 use Prim.Native.Nat.{ℕ, _+_, _-_, _^_, _<_}
 use mathlib.Core.Path.{_≡_, refl, sym, ap, _∙_, subst}
-use mathlib.Core.Bool.{Bool, true, false, cond, not, _||_, true≢false}
+use mathlib.Core.Bool.{Bool, true, false, cond, not, true≢false}
 use mathlib.Core.List.{List, [], _∷_}
 use native.Mathlib.Omega.{arith}
 use borrow.Author.Tests.{le-leb}
 use lib.Dec.{eqb, leb, ltb}
+use Rattle.ground.specs.TestsLaws.{or-none}
 use Rattle.fields.specs.Word.{read}
 use Rattle.fields.specs.WordLaws.{field-lt}
 use Rattle.frame.specs.Words as W
@@ -54,10 +55,6 @@ read-fits F.End w r = absurd (true≢false (r .more))
 
 -- ---- what was taken may stand there
 
-or-right : (a b : Bool) → (a || b) ≡ false → b ≡ false
-or-right true b h = absurd (true≢false h)
-or-right false b h = h
-
 stood : (s : Scan) (w : ℕ) (f : Form) (u : Scan) → Accepted s w f u → Stands s (itemFrom f w)
 unfolding formAt
 stood s w f u a =
@@ -71,7 +68,7 @@ stood s w f u a =
       limit = a .off .0;
       type = rw g k;
       slot = a .off .1 .1 .0;
-      fields = or-right (not (fixedIn f w)) (itemWrong s (itemFrom f w)) (a .off .1 .1 .1 .0);
+      fields = or-none (not (fixedIn f w)) (itemWrong s (itemFrom f w)) (a .off .1 .1 .1 .0) .1;
       count = a .off .1 .1 .1 .1 .0;
       widths = read-fits f w r;
     }

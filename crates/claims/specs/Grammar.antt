@@ -65,12 +65,12 @@ pub data Tree : Type 0 where
 
 -- ---- its records, in order
 
-abbrev pub pairsOf : List SamplePair → List Item
-pairsOf ps = map (λ p. I.Pair p) ps
+abbrev pub eachPair : List SamplePair → List Item
+eachPair ps = map (λ p. I.Pair p) ps
 
 abbrev pub pieceOf : Piece → List Item
-pieceOf (window r ps) = I.Window r ∷ pairsOf ps
-pieceOf (raw r ps) = I.Raw r ∷ pairsOf ps
+pieceOf (window r ps) = I.Window r ∷ eachPair ps
+pieceOf (raw r ps) = I.Raw r ∷ eachPair ps
 pieceOf (integral r) = I.Integral r ∷ []
 pieceOf (time r) = I.Time r ∷ []
 pieceOf (pedestal r) = I.Pedestal r ∷ []
@@ -131,10 +131,10 @@ WindowPairs (suc zero) (p ∷ q ∷ ps) = ⊥
 WindowPairs (suc (suc n)) [] = ⊥
 WindowPairs (suc (suc n)) (p ∷ ps) = BothValid p × WindowPairs n ps
 
--- the last pair of type 6: whole, or the odd end
+-- the last pair of type 6: full, or the odd end
 pub data LastPair (p : SamplePair) : Type 0 where
-  whole : BothValid p → LastPair p
-  odd : OddEnd p → LastPair p
+  full : BothValid p → LastPair p
+  short : OddEnd p → LastPair p
 
 -- "In type 6 a flagged pair is the last"
 abbrev pub RawPairs : List SamplePair → Type 0

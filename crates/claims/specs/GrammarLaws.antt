@@ -1,7 +1,7 @@
 -- The records of a well-formed tree stand as the layout asks. Assumes nothing.
 use Prim.Native.Nat.{ℕ, zero, suc, _+_, _-_, _%_, _≤_, _<_}
 use mathlib.Core.Path.{_≡_, refl, sym, ap, _∙_, subst}
-use mathlib.Core.Bool.{Bool, true, false, not, cond, true≢false}
+use mathlib.Core.Bool.{Bool, true, false, not, cond}
 use mathlib.Core.List.{List, [], _∷_, _++_, map}
 use native.Mathlib.Omega.{arith}
 use borrow.Author.Tests.{le-leb, lt-leb, lt-ltb, leb-true, eq-eqb, ne-eqb}
@@ -21,12 +21,11 @@ use Rattle.items.specs.declared.Item.the-variants as I
 use Rattle.reader.specs.declared.Phase.{Phase}
 use Rattle.reader.specs.declared.Phase.the-variants as P
 use Rattle.reader.specs.declared.Scan.{Scan}
-use Rattle.reader.specs.Reader as D
-use Rattle.reader.specs.Reader.{mostPairs, moreIn, allowedIn, otherIn, formIn, formFor, unfinished, atLimit, slotWrong, flagWrong, itemWrong, countWrong, onward, paired, filled, slotAfter, after, startOf}
+use Rattle.reader.specs.Reader.{mostPairs, pairsOf, moreIn, formFor, unfinished, atLimit, slotWrong, flagWrong, itemWrong, countWrong, onward, paired, filled, slotAfter, after, startOf}
 use Rattle.claims.specs.Layout.{Stands, Follow, IsBlock}
-use Rattle.claims.specs.PassLaws.{Passes, Inside, inside-none, inside-cons, inside-append, innerAt, edgeAt, inner-edge, inner-form, not-limit, both, onward-one}
+use Rattle.claims.specs.PassLaws.{follow-behind, Inside, inside-none, inside-cons, inside-append, innerAt, edgeAt, inner-edge, inner-form, edge-form, not-limit, both, onward-one}
 use Rattle.claims.specs.WrittenLaws.{Fine}
-use Rattle.claims.specs.Grammar.{Piece, window, raw, integral, time, pedestal, Clock, no-clock, clock27, clock48, EventTree, Setup, no-setup, setup, BlockTree, Tree, block, empty, pairsOf, pieceOf, piecesOf, clockOf, eventOf, eventsOf, setupOf, bodyOf, recordsOf, Each, LastPair, whole, odd, WindowPairs, RawPairs, PieceOk, ClockOk, EventOk, BlockOk, WellFormed}
+use Rattle.claims.specs.Grammar.{Piece, window, raw, integral, time, pedestal, Clock, no-clock, clock27, clock48, EventTree, Setup, no-setup, setup, BlockTree, Tree, block, empty, eachPair, pieceOf, piecesOf, clockOf, eventOf, eventsOf, setupOf, bodyOf, recordsOf, Each, LastPair, full, short, WindowPairs, RawPairs, PieceOk, ClockOk, EventOk, BlockOk, WellFormed}
 
 -- every field is within its bits
 abbrev Widths : List Item → Type 0
@@ -50,40 +49,40 @@ pair-step : (s : Scan) (p : SamplePair) (xs : List Item) → LastPair p → more
 pair-step s p xs k m f l w = step s (I.Pair p) xs (s .left) innerAt l m refl (clean k) refl w refl
   where
     clean : LastPair p → itemWrong s (I.Pair p) ≡ false
-    clean (whole v) = rw (v .first, f, v .second)
-    clean (odd v) = rw (v .first, f, v .second, v .zero)
+    clean (full v) = rw (v .first, f, v .second)
+    clean (short v) = rw (v .first, f, v .second, v .zero)
 
 -- where the reading stands with w samples of a window to come
 abbrev windowAt : ℕ → Phase
 windowAt zero = P.Items
-windowAt (suc w) = P.Window (D.pairsOf (suc w)) (eqb (suc w % 2) 1)
+windowAt (suc w) = P.Window (pairsOf (suc w)) (eqb (suc w % 2) 1)
 
-window-inside : (w : ℕ) (ps : List SamplePair) (s : Scan) → WindowPairs w ps → s .phase ≡ windowAt w → s .place + length (pairsOf ps) < 4194303 → Widths (pairsOf ps)
-    → Inside s (pairsOf ps) (s .left) innerAt
-unfolding D.pairsOf after innerAt
+window-inside : (w : ℕ) (ps : List SamplePair) (s : Scan) → WindowPairs w ps → s .phase ≡ windowAt w → s .place + length (eachPair ps) < 4194303 → Widths (eachPair ps)
+    → Inside s (eachPair ps) (s .left) innerAt
+unfolding pairsOf after innerAt
 window-inside zero [] s v e l f = inside-none s innerAt (ap innerAt e)
 window-inside zero (p ∷ ps) s v e l f = absurd v
 window-inside (suc zero) [] s v e l f = absurd v
-window-inside (suc zero) (p ∷ []) s v e l f = pair-step s p [] (odd v) (ap moreIn e) (rw (e, v .second)) (omega arith) (f .0) (λ k. inside-none _ innerAt (rw e))
+window-inside (suc zero) (p ∷ []) s v e l f = pair-step s p [] (short v) (ap moreIn e) (rw (e, v .second)) (omega arith) (f .0) (λ k. inside-none _ innerAt (rw e))
 window-inside (suc zero) (p ∷ q ∷ ps) s v e l f = absurd v
 window-inside (suc (suc n)) [] s v e l f = absurd v
 window-inside (suc (suc n)) (p ∷ ps) s v e l f =
-    pair-step s p (pairsOf ps) (whole (v .0)) (ap moreIn e) (rw (e, v .0 .second) (calm n)) (omega arith) (f .0)
+    pair-step s p (eachPair ps) (full (v .0)) (ap moreIn e) (rw (e, v .0 .second) (calm n)) (omega arith) (f .0)
     (λ k. window-inside n ps _ (v .1) (rw e (next n)) (omega arith) (f .1))
   where
     calm : (n : ℕ) → flagWrong (windowAt (suc (suc n))) 0 ≡ false
     calm zero = refl
-    calm (suc n) = rw (ne-eqb (D.pairsOf (suc (suc (suc n)))) 1 (λ q. omega arith))
+    calm (suc n) = rw (ne-eqb (pairsOf (suc (suc (suc n)))) 1 (λ q. omega arith))
 
     next : (n : ℕ) → paired (windowAt (suc (suc n))) 0 ≡ windowAt n
     next zero = refl
     next (suc n) =
-        let m : D.pairsOf (suc (suc (suc n))) - 1 ≡ D.pairsOf (suc n) = omega arith in
+        let m : pairsOf (suc (suc (suc n))) - 1 ≡ pairsOf (suc n) = omega arith in
         let o : suc (suc (suc n)) % 2 ≡ suc n % 2 = omega arith in
-        rw (lt-leb (D.pairsOf (suc (suc (suc n)))) 1 (omega arith), m, o)
+        rw (lt-leb (pairsOf (suc (suc (suc n)))) 1 (omega arith), m, o)
 
-raw-inside : (n : ℕ) (ps : List SamplePair) (s : Scan) → RawPairs ps → length ps ≤ n → n ≤ 250 → s .phase ≡ P.Raw n → s .place + length (pairsOf ps) < 4194303 → Widths (pairsOf ps)
-    → Inside s (pairsOf ps) (s .left) innerAt
+raw-inside : (n : ℕ) (ps : List SamplePair) (s : Scan) → RawPairs ps → length ps ≤ n → n ≤ 250 → s .phase ≡ P.Raw n → s .place + length (eachPair ps) < 4194303 → Widths (eachPair ps)
+    → Inside s (eachPair ps) (s .left) innerAt
 unfolding mostPairs after innerAt
 raw-inside n [] s v c m e l f = absurd v
 raw-inside n (p ∷ []) s v c m e l f =
@@ -93,7 +92,7 @@ raw-inside n (p ∷ []) s v c m e l f =
     few true = refl
     few false = lt-ltb (n - 1) 250 (omega arith)
 raw-inside n (p ∷ q ∷ ps) s v c m e l f =
-    pair-step s p (pairsOf (q ∷ ps)) (whole (v .0)) (rw (e, ne-eqb n 0 (λ q. omega arith))) (rw e) (omega arith) (f .0)
+    pair-step s p (eachPair (q ∷ ps)) (full (v .0)) (rw (e, ne-eqb n 0 (λ q. omega arith))) (rw e) (omega arith) (f .0)
     (λ k. raw-inside (n - 1) (q ∷ ps) _ (v .1) (omega arith) (omega arith) (rw (e, v .0 .second)) (omega arith) (f .1))
 
 -- ---- an event
@@ -101,14 +100,14 @@ raw-inside n (p ∷ q ∷ ps) s v c m e l f =
 piece-fine : (x : Piece) → PieceOk x → Widths (pieceOf x) → Fine (pieceOf x)
 unfolding after innerAt R.windowWithin mostPairs
 piece-fine (window r ps) v f s h l =
-    step s _ (pairsOf ps) (s .left) innerAt (omega arith) (inner-form (s .phase) 4 h refl) refl (ap not (both (le-leb 1 (r .width) (v .0)) (le-leb (r .width) 500 (v .1 .0)))) refl (f .0) refl
+    step s _ (eachPair ps) (s .left) innerAt (omega arith) (inner-form (s .phase) 4 h refl) refl (ap not (both (le-leb 1 (r .width) (v .0)) (le-leb (r .width) 500 (v .1 .0)))) refl (f .0) refl
     (λ k. window-inside (r .width) ps _ (v .1 .1) (start (r .width) (v .0)) (omega arith) (f .1))
   where
-    start : (w : ℕ) → 1 ≤ w → P.Window (D.pairsOf w) (eqb (w % 2) 1) ≡ windowAt w
+    start : (w : ℕ) → 1 ≤ w → P.Window (pairsOf w) (eqb (w % 2) 1) ≡ windowAt w
     start zero h = absurd (omega arith)
     start (suc w) h = refl
 piece-fine (raw r ps) v f s h l =
-    step s _ (pairsOf ps) (s .left) innerAt (omega arith) (inner-form (s .phase) 6 h refl) refl refl refl (f .0) refl
+    step s _ (eachPair ps) (s .left) innerAt (omega arith) (inner-form (s .phase) 6 h refl) refl refl refl (f .0) refl
     (λ k. raw-inside 250 ps _ (v .1) (v .0) (omega arith) refl (omega arith) (f .1))
 piece-fine (integral r) v f s h l = step s _ [] (s .left) innerAt (omega arith) (inner-form (s .phase) 7 h refl) refl refl refl (f .0) refl (λ k. inside-none _ innerAt refl)
 piece-fine (time r) v f s h l = step s _ [] (s .left) innerAt (omega arith) (inner-form (s .phase) 8 h refl) refl refl refl (f .0) refl (λ k. inside-none _ innerAt refl)
@@ -131,19 +130,6 @@ clock-inside (clock27 r) s v e l f = step s _ [] (s .left) innerAt (omega arith)
 clock-inside (clock48 r high) s v e l f =
     step s _ _ (s .left) innerAt (omega arith) (rw e) refl refl refl (f .0) refl
     (λ k. step _ (I.ClockHigh high) [] (s .left) innerAt (omega arith) refl refl (ap not (eq-eqb _ _ v)) refl (f .1 .0) refl (λ k. inside-none _ innerAt refl))
-
--- an event header and the trailer, wherever an event may end or begin
-edge-form : (p : Phase) → edgeAt p ≡ true → (formIn (otherIn p) (allowedIn p) 2 ≡ F.Event) × (formIn (otherIn p) (allowedIn p) 1 ≡ F.Trailer)
-unfolding edgeAt
-edge-form P.Start h = absurd (true≢false (sym h))
-edge-form P.Head h = (refl, refl)
-edge-form P.Front h = (refl, refl)
-edge-form P.Opened h = (refl, refl)
-edge-form (P.Timed d) h = (refl, refl)
-edge-form P.Items h = (refl, refl)
-edge-form (P.Window n b) h = absurd (true≢false (sym h))
-edge-form (P.Raw n) h = (rw h, rw h)
-edge-form (P.Tail n) h = absurd (true≢false (sym h))
 
 event-inside : (e : EventTree) (k : ℕ) (s : Scan) → EventOk k e → edgeAt (s .phase) ≡ true → s .slot ≡ k → 0 < s .left → s .place + length (eventOf e) < 4194303 → Widths (eventOf e)
     → Inside s (eventOf e) (s .left - 1) innerAt
@@ -178,10 +164,6 @@ fillers-follow (x ∷ fs) n k s v e d l f =
     let here : Stands s (I.Filler x) =
     record { limit = rw e; type = rw (e, ne-eqb n 0 (λ q. omega arith)); slot = ap not (eq-eqb _ _ (v .0 ∙ sym d)); fields = refl; count = refl; widths = f .0 } in
     (here, fillers-follow fs (n - 1) k _ (v .1) (ap filled e) d (omega arith) (f .1))
-
-follow-behind : (xs ys : List Item) (s t : Scan) → Passes s xs t → Follow t ys → Follow s (xs ++ ys)
-follow-behind [] ys s t p q = subst (λ (v : Scan). Follow v ys) (sym p) q
-follow-behind (x ∷ xs) ys s t p q = (p .0, follow-behind xs ys (after s x) t (p .1) q)
 
 events-within : (r : BlockHeader) → 1 ≤ r .events → fits (I.Block r) ≡ true → W.blockHeaderWithin r ≡ true
 unfolding fits W.blockHeader W.blockHeaderWithin

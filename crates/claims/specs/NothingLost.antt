@@ -2,11 +2,12 @@
 -- there, undefined bits of types 14 and 15 as zero. Assumes nothing.
 use Prim.Native.Nat.{ℕ, zero, suc, _^_, _<_}
 use mathlib.Core.Path.{_≡_, refl, sym, ap, _∙_}
-use mathlib.Core.Bool.{Bool, true, false, not, cond, _||_, true≢false}
+use mathlib.Core.Bool.{Bool, true, false, not, cond, true≢false}
 use mathlib.Core.List.{List, [], _∷_}
 use native.Mathlib.Omega.{arith}
 use borrow.Author.Tests.{eqb-true, eqb-false, eq-eqb, not-false}
 use lib.Dec.{eqb, ltb}
+use Rattle.ground.specs.TestsLaws.{or-none}
 use Rattle.fields.specs.Word.{read}
 use Rattle.fields.specs.WordLaws.{field-lt}
 use Rattle.fields.specs.Tag.{isDefining, isContinuation}
@@ -173,10 +174,6 @@ form-back F.Filler w r = refl
 form-back F.No w r = unreal-no r
 form-back F.End w r = unreal-end r
 
-or-left : (a b : Bool) → (a || b) ≡ false → a ≡ false
-or-left true b h = h
-or-left false b h = refl
-
 pub real-of : (s : Scan) (w : ℕ) (f : Form) (u : Scan) → Accepted s w f u → Real f
 real-of s w f u a = record { word = a .off .1 .0; more = a .here }
 
@@ -188,7 +185,7 @@ tag-of s w f u a = rw (a .form) at (form-tag (s .phase) (read 31 31 w) (read 30 
 took : (s : Scan) (w : ℕ) (f : Form) (u : Scan) → w < 2 ^ 32 → Accepted s w f u → wordOf (itemFrom f w) ≡ cleanOf (formOf (itemFrom f w)) w
 took s w f u l a =
     let r : Real f = real-of s w f u a in
-    word-back f w l r (tag-of s w f u a) (not-false _ (or-left (not (fixedIn f w)) (itemWrong s (itemFrom f w)) (a .off .1 .1 .1 .0)))
+    word-back f w l r (tag-of s w f u a) (not-false _ (or-none (not (fixedIn f w)) (itemWrong s (itemFrom f w)) (a .off .1 .1 .1 .0) .0))
     ∙ ap (λ (g : Form). cleanOf g w) (sym (form-back f w r))
 
 -- "no two blocks read alike": the records before a run's end are spelt by the words read

@@ -7,7 +7,7 @@ use native.Mathlib.Omega.{arith}
 use borrow.Author.Tests.{leb-true, leb-false, eqb-true, eqb-false, ne-eqb, not-false}
 use lib.Dec.{eqb, leb, ltb}
 use lib.ListN.{length, length-append}
-use Rattle.ground.specs.TestsLaws.{and-left, and-right}
+use Rattle.ground.specs.TestsLaws.{and-left, and-right, or-none}
 use Rattle.frame.specs.declared.block_header.BlockHeader.{BlockHeader}
 use Rattle.frame.specs.declared.trailer.BlockTrailer.{BlockTrailer}
 use Rattle.frame.specs.declared.event_header.EventHeader.{EventHeader}
@@ -24,9 +24,9 @@ use Rattle.items.specs.declared.Item.the-variants as I
 use Rattle.reader.specs.declared.Phase.{Phase}
 use Rattle.reader.specs.declared.Phase.the-variants as P
 use Rattle.reader.specs.declared.Scan.{Scan}
-use Rattle.reader.specs.Reader.{mostPairs, pairsOf as pairCount, moreIn, edges, inner, allowedIn, otherIn, formIn, unfinished, isNo, isEnd, flagWrong, timeWrong, onward, paired, filled, after, startOf}
+use Rattle.reader.specs.Reader.{mostPairs, pairsOf, moreIn, edges, inner, allowedIn, otherIn, formIn, unfinished, isNo, isEnd, flagWrong, timeWrong, onward, paired, filled, after, startOf}
 use Rattle.claims.specs.Layout.{Stands, Follow, IsBlock}
-use Rattle.claims.specs.Grammar.{Piece, window, raw, integral, time, pedestal, no-clock, clock27, clock48, EventTree, Setup, no-setup, setup, Tree, block, empty, pairsOf, pieceOf, piecesOf, clockOf, eventsOf, setupOf, recordsOf, Each, BothValid, OddEnd, WindowPairs, LastPair, whole, odd, RawPairs, PieceOk, ClockOk, EventOk, TreeOk, WellFormed}
+use Rattle.claims.specs.Grammar.{Piece, window, raw, integral, time, pedestal, no-clock, clock27, clock48, EventTree, Setup, no-setup, setup, Tree, block, empty, eachPair, pieceOf, piecesOf, clockOf, eventsOf, setupOf, recordsOf, Each, BothValid, OddEnd, WindowPairs, LastPair, full, short, RawPairs, PieceOk, ClockOk, EventOk, TreeOk, WellFormed}
 
 -- ---- the rest of the records, by where the reading stands
 
@@ -82,7 +82,7 @@ abbrev Timed : ℕ → List Item → Type 0
 Timed d ys = (r : TriggerTime) → r .middle ≡ d → Clocked (I.Clock r ∷ ys)
 
 abbrev Windowed : ℕ → Bool → List Item → Type 0
-Windowed n b ys = (w : ℕ) → 1 ≤ w → pairCount w ≡ n → eqb (w % 2) 1 ≡ b → Then pairsOf (WindowPairs w) ys
+Windowed n b ys = (w : ℕ) → 1 ≤ w → pairsOf w ≡ n → eqb (w % 2) 1 ≡ b → Then eachPair (WindowPairs w) ys
 
 abbrev RawLeft : ℕ → List SamplePair → Type 0
 RawLeft n ps = (length ps ≤ n) × (ltb n mostPairs ≡ false → 1 ≤ length ps) × (1 ≤ length ps → RawPairs ps)
@@ -102,7 +102,7 @@ Shape P.Opened s xs = Led s Clocked xs
 Shape (P.Timed d) s xs = Led s (Timed d) xs
 Shape P.Items s xs = Led s Pieces xs
 Shape (P.Window n b) s xs = Led s (Windowed n b) xs
-Shape (P.Raw n) s xs = Led s (Then pairsOf (RawLeft n)) xs
+Shape (P.Raw n) s xs = Led s (Then eachPair (RawLeft n)) xs
 Shape (P.Tail n) s xs = Fillers n (s .slot) xs
 
 abbrev Here : Scan → List Item → Type 0
@@ -163,7 +163,7 @@ at s xs type {f} u v e start edge opened inside tail = go (s .phase) refl e
     go (P.Window n b) m e = not-no u e
     go (P.Raw n) m e = some (ltb n mostPairs) refl e
       where
-        some : (b : Bool) → ltb n mostPairs ≡ b → formIn F.No (cond b inner []) type ≡ f → Led s (Then pairsOf (RawLeft n)) xs
+        some : (b : Bool) → ltb n mostPairs ≡ b → formIn F.No (cond b inner []) type ≡ f → Led s (Then eachPair (RawLeft n)) xs
         some true l e = turn (inside e) (λ ys t. join [] t [] (omega arith, λ z. absurd (true≢false (sym l ∙ z)), λ z. absurd (omega arith)) refl)
         some false l e = not-no u e
     go (P.Tail n) m e = some (eqb n 0) refl e
@@ -203,37 +203,33 @@ next S p {f} u v e head timed windowed rawed = go p e
 
 -- ---- pairs
 
-or-none : (a b : Bool) → (a || b) ≡ false → (a ≡ false) × (b ≡ false)
-or-none true b h = absurd (true≢false h)
-or-none false b h = (refl, h)
-
 pair-is : (p : SamplePair) (a b c d : Bool) → eqb (p .nofirst) 0 ≡ a → eqb (p .nosecond) 1 ≡ b → eqb (p .second) 0 ≡ c → fits (I.Pair p) ≡ true → (not a || ((b && not c) || d)) ≡ false
     → LastPair p × (d ≡ false)
 unfolding fits R.pair
-pair-is p true true true d x y z l h = (odd (record { first = eqb-true (p .nofirst) 0 x; second = eqb-true (p .nosecond) 1 y; zero = eqb-true (p .second) 0 z }), h)
+pair-is p true true true d x y z l h = (short (record { first = eqb-true (p .nofirst) 0 x; second = eqb-true (p .nosecond) 1 y; zero = eqb-true (p .second) 0 z }), h)
 pair-is p true true false d x y z l h = absurd (true≢false h)
 pair-is p true false c d x y z l h =
     let m : leb (p .nosecond) 1 ≡ true = and-left (leb (p .nosecond) 1) _ (and-right (leb (p .first) 8191) _ (and-right (leb (p .nofirst) 1) _ l)) in
-    (whole (record { first = eqb-true (p .nofirst) 0 x; second = omega (arith, leb-true (p .nosecond) 1 m, eqb-false (p .nosecond) 1 y) }), h)
+    (full (record { first = eqb-true (p .nofirst) 0 x; second = omega (arith, leb-true (p .nosecond) 1 m, eqb-false (p .nosecond) 1 y) }), h)
 pair-is p false b c d x y z l h = absurd (true≢false h)
 
 ends : {p : SamplePair} → LastPair p → (p .nosecond ≡ 1 → OddEnd p) × (p .nosecond ≡ 0 → BothValid p)
-ends (whole h) = (λ e. absurd (omega (arith, h .second)), λ e. h)
-ends (odd h) = (λ e. h, λ e. absurd (omega (arith, h .second)))
+ends (full h) = (λ e. absurd (omega (arith, h .second)), λ e. h)
+ends (short h) = (λ e. h, λ e. absurd (omega (arith, h .second)))
 
-pair-first : {ok good : List SamplePair → Type 0} {ys : List Item} (p : SamplePair) → Then pairsOf ok ys → ((ps : List SamplePair) → ok ps → good (p ∷ ps)) → Then pairsOf good (I.Pair p ∷ ys)
+pair-first : {ok good : List SamplePair → Type 0} {ys : List Item} (p : SamplePair) → Then eachPair ok ys → ((ps : List SamplePair) → ok ps → good (p ∷ ps)) → Then eachPair good (I.Pair p ∷ ys)
 pair-first p t f = join (I.Pair p ∷ []) t (p ∷ t .first) (f (t .first) (t .fine)) refl
 
 -- a window's pair, where n were still to come
 window-last : (n : ℕ) (b : Bool) (p : SamplePair) (ys : List Item) → LastPair p → p .nosecond ≡ cond (eqb n 1 && b) 1 0 → n ≤ 1 → Pieces ys → Windowed n b (I.Pair p ∷ ys)
-unfolding pairCount
+unfolding pairsOf
 window-last n b p ys l f h t zero o c d = absurd (omega arith)
 window-last n b p ys l f h t (suc zero) o c d = join (I.Pair p ∷ []) t (p ∷ []) (ends l .0 (f ∙ rw (← c, ← d))) refl
 window-last n b p ys l f h t (suc (suc zero)) o c d = join (I.Pair p ∷ []) t (p ∷ []) (ends l .1 (f ∙ rw (← c, ← d)), tt) refl
 window-last n b p ys l f h t (suc (suc (suc w))) o c d = absurd (omega arith)
 
 window-more : (n : ℕ) (b : Bool) (p : SamplePair) (ys : List Item) → LastPair p → p .nosecond ≡ cond (eqb n 1 && b) 1 0 → 1 < n → Windowed (n - 1) b ys → Windowed n b (I.Pair p ∷ ys)
-unfolding pairCount
+unfolding pairsOf
 window-more n b p ys l f h t zero o c d = absurd (omega arith)
 window-more n b p ys l f h t (suc zero) o c d = absurd (omega arith)
 window-more n b p ys l f h t (suc (suc w)) o c d =
@@ -243,8 +239,8 @@ window-more n b p ys l f h t (suc (suc w)) o c d =
 
 raw-more : (n : ℕ) (p : SamplePair) (ps : List SamplePair) → 1 ≤ n → LastPair p → RawLeft (cond (eqb (p .nosecond) 1) 0 (n - 1)) ps → RawLeft n (p ∷ ps)
 raw-more n p [] o l h = (o, λ z. omega arith, λ z. l)
-raw-more n p (q ∷ ps) o (whole w) h = let l : length (q ∷ ps) ≤ n - 1 = rw (w .second) at (h .0) in (omega arith, λ z. omega arith, λ z. (w, h .2 (omega arith)))
-raw-more n p (q ∷ ps) o (odd w) h = let l : length (q ∷ ps) ≤ 0 = rw (w .second) at (h .0) in absurd (omega arith)
+raw-more n p (q ∷ ps) o (full w) h = let l : length (q ∷ ps) ≤ n - 1 = rw (w .second) at (h .0) in (omega arith, λ z. omega arith, λ z. (w, h .2 (omega arith)))
+raw-more n p (q ∷ ps) o (short w) h = let l : length (q ∷ ps) ≤ 0 = rw (w .second) at (h .0) in absurd (omega arith)
 
 -- ---- one record and the rest
 

@@ -30,9 +30,9 @@ pub pass-append : (xs ys : List Item) (s t u : Scan) → Passes s xs t → Passe
 pass-append [] ys s t u p q = subst (λ (v : Scan). Passes v ys u) (sym p) q
 pass-append (x ∷ xs) ys s t u p q = (p .0, pass-append xs ys (after s x) t u (p .1) q)
 
-pub pass-follow : (xs : List Item) (s t : Scan) → Passes s xs t → unfinished (t .phase) ≡ false → Follow s xs
-pass-follow [] s t p h = subst (λ (v : Scan). unfinished (v .phase) ≡ false) (sym p) h
-pass-follow (x ∷ xs) s t p h = (p .0, pass-follow xs (after s x) t (p .1) h)
+pub follow-behind : (xs ys : List Item) (s t : Scan) → Passes s xs t → Follow t ys → Follow s (xs ++ ys)
+follow-behind [] ys s t p q = subst (λ (v : Scan). Follow v ys) (sym p) q
+follow-behind (x ∷ xs) ys s t p q = (p .0, follow-behind xs ys (after s x) t (p .1) q)
 
 -- the records stand from s on; behind them `left` events are still to come, and the phase is as asked
 pub record Inside (s : Scan) (xs : List Item) (left : ℕ) (ok : Phase → Bool) : Type 0 where
@@ -126,6 +126,19 @@ inner-form P.Items k h n = refl
 inner-form (P.Window m odd) k h n = absurd (true≢false (sym h))
 inner-form (P.Raw m) k h n = rw h
 inner-form (P.Tail m) k h n = absurd (true≢false (sym h))
+
+-- an event header and the trailer, wherever an event may end or begin
+pub edge-form : (p : Phase) → edgeAt p ≡ true → (formIn (otherIn p) (allowedIn p) 2 ≡ F.Event) × (formIn (otherIn p) (allowedIn p) 1 ≡ F.Trailer)
+unfolding edgeAt
+edge-form P.Start h = absurd (true≢false (sym h))
+edge-form P.Head h = (refl, refl)
+edge-form P.Front h = (refl, refl)
+edge-form P.Opened h = (refl, refl)
+edge-form (P.Timed d) h = (refl, refl)
+edge-form P.Items h = (refl, refl)
+edge-form (P.Window n b) h = absurd (true≢false (sym h))
+edge-form (P.Raw n) h = (rw h, rw h)
+edge-form (P.Tail n) h = absurd (true≢false (sym h))
 
 pub not-limit : (s : Scan) → s .place < 4194303 → atLimit s ≡ false
 unfolding atLimit

@@ -35,7 +35,7 @@ use Rattle.writer.specs.StateLaws.{state-settings, IdleSays, idle-says, EventSa
 use Rattle.writer.specs.WordsLaws.{fillers-lt}
 use Rattle.claims.specs.Layout.{Stands, Follow, IsBlock}
 use Rattle.claims.specs.LayoutLaws.{round-trip}
-use Rattle.claims.specs.PassLaws.{Passes, Inside, pass-append, innerAt, edgeAt, inner-edge, not-limit, both}
+use Rattle.claims.specs.PassLaws.{Passes, follow-behind, Inside, pass-append, innerAt, edgeAt, inner-edge, edge-form, not-limit, both}
 use Rattle.claims.specs.WrittenLaws.{event-stands}
 use Rattle.claims.specs.Refused.{open-block-refused, close-refused, finish-refused}
 use Rattle.claims.specs.Run.{Run, opened, begun, posted, closed, not-closed, not-opened, not-finished}
@@ -115,18 +115,6 @@ fillers-stand (suc n) m k s e d h l =
       fillers-stand n (m - 1) k _ (ap filled e) d h (omega arith),
     )
 
-edge-trailer : (p : Phase) → edgeAt p ≡ true → formIn (otherIn p) (allowedIn p) 1 ≡ F.Trailer
-unfolding edgeAt
-edge-trailer P.Start h = absurd (true≢false (sym h))
-edge-trailer P.Head h = refl
-edge-trailer P.Front h = refl
-edge-trailer P.Opened h = refl
-edge-trailer (P.Timed d) h = refl
-edge-trailer P.Items h = refl
-edge-trailer (P.Window n odd) h = absurd (true≢false (sym h))
-edge-trailer (P.Raw n) h = rw h
-edge-trailer (P.Tail n) h = absurd (true≢false (sym h))
-
 -- "Filler multiple 1, 2 or 4": fewer than four fillers
 few : (multiple count : ℕ) → oneOf multiple (1 ∷ 2 ∷ 4 ∷ []) ≡ true → fillersTo multiple count ≤ 3
 few multiple count h = by (eqb multiple 1) refl (eqb multiple 2) refl (eqb multiple 4) refl h
@@ -145,7 +133,7 @@ end-stands s c words g d o p l ok =
     let q : words + 1 ≡ s .place + 1 = omega (arith, p) in (
       record {
         limit = not-limit s (omega (arith, p));
-        type = edge-trailer (s .phase) g;
+        type = edge-form (s .phase) g .1;
         slot = ap not (eq-eqb (c .slot) (s .slot) (sym d));
         fields = refl;
         count = rw (eq-eqb (s .left) 0 o, eq-eqb (words + 1) (s .place + 1) q);
@@ -265,10 +253,6 @@ run-leaves (not-opened {s} {words} {xs} run number events r words′ h e) = let 
 run-leaves (not-finished {s} {words} {xs} run r words′ h e) = let k = finish-refused s words r words′ h e in inv-same (k .0) (k .1) (run-leaves run)
 
 -- ---- the round trip
-
-follow-behind : (xs ys : List Item) (s t : Scan) → Passes s xs t → Follow t ys → Follow s (xs ++ ys)
-follow-behind [] ys s t p q = subst (λ (v : Scan). Follow v ys) (sym p) q
-follow-behind (x ∷ xs) ys s t p q = (p .0, follow-behind xs ys (after s x) t (p .1) q)
 
 -- the block's words are those of its records, and the reader gives them back: every field as written, to the block's last word
 pub record ReadBack (xs : List Item) (n : ℕ) (words : List ℕ) : Type 0 where

@@ -1,7 +1,7 @@
 -- What a channel and an event write stands as the layout asks. Assumes nothing.
 use Prim.Native.Nat.{ℕ, zero, suc, _+_, _-_, _*_, _/_, _%_, _^_, _≤_, _<_, min}
 use mathlib.Core.Path.{_≡_, refl, sym, ap, _∙_, subst}
-use mathlib.Core.Bool.{Bool, true, false, not, cond, _&&_, _||_, true≢false}
+use mathlib.Core.Bool.{Bool, true, false, not, cond, _&&_, _||_}
 use mathlib.Core.List.{List, [], _∷_, _++_}
 use native.Mathlib.Omega.{arith}
 use borrow.Author.Tests.{le-leb, ne-eqb, eq-eqb}
@@ -19,7 +19,6 @@ use Rattle.frame.specs.Words as W
 use Rattle.raw.specs.Words as R
 use Rattle.measures.specs.Words as M
 use Rattle.items.specs.Items.{fits}
-use Rattle.items.specs.declared.Form.the-variants as F
 use Rattle.items.specs.declared.Item.{Item}
 use Rattle.items.specs.declared.Item.the-variants as I
 use Rattle.reader.specs.declared.Phase.{Phase}
@@ -32,7 +31,7 @@ use Rattle.channel.specs.InnerLaws.{length-pairs, length-set}
 use Rattle.event.specs.Event.{row, rowsOk, timeItems, channelsItems, eventItems}
 use Rattle.event.specs.EventLaws.{row-end}
 use Rattle.claims.specs.Layout.{Stands}
-use Rattle.claims.specs.PassLaws.{Inside, inside-none, inside-cons, inside-append, innerAt, edgeAt, inner-form, not-limit, both, onward-one, pairs-window, pairs-raw}
+use Rattle.claims.specs.PassLaws.{Inside, inside-none, inside-cons, inside-append, innerAt, edgeAt, inner-form, edge-form, not-limit, both, onward-one, pairs-window, pairs-raw}
 
 -- records that may stand wherever an item may, and leave the reading where the next may stand
 abbrev pub Fine : List Item → Type 0
@@ -239,18 +238,6 @@ times-stand s times time m h e l = go times m l
         (inside-none _ innerAt refl))
     go (suc (suc (suc n))) m l = absurd (omega arith)
 
-edge-event : (p : Phase) → edgeAt p ≡ true → formIn (otherIn p) (allowedIn p) 2 ≡ F.Event
-unfolding edgeAt
-edge-event P.Start h = absurd (true≢false (sym h))
-edge-event P.Head h = refl
-edge-event P.Front h = refl
-edge-event P.Opened h = refl
-edge-event (P.Timed d) h = refl
-edge-event P.Items h = refl
-edge-event (P.Window n odd) h = absurd (true≢false (sym h))
-edge-event (P.Raw n) h = rw h
-edge-event (P.Tail n) h = absurd (true≢false (sym h))
-
 -- what a close writes, wherever an event may begin
 pub event-stands : (s : Scan) (c : Settings) (number time : ℕ) (posted : List Bool) (store : List ℕ) → edgeAt (s .phase) ≡ true → s .slot ≡ c .slot → 0 < s .left → settingsOk c ≡ true
     → number ≤ 4194303 → time ≤ 2 ^ 48 - 1 → length posted ≤ 16 → 16 * c .nw ≤ length store → rowsOk (c .nw) store 0 posted ≡ true
@@ -264,7 +251,7 @@ event-stands s c number time posted store g d o ok n m k z q l =
     inside-cons s _ (timeItems (c .times) time ++ channelsItems c store 0 posted) (s .left - 1) innerAt (omega arith)
     (record {
       limit = not-limit s (omega arith);
-      type = edge-event (s .phase) g;
+      type = edge-form (s .phase) g .0;
       slot = ap not (eq-eqb (c .slot) (s .slot) (sym d));
       fields = refl;
       count = ne-eqb (s .left) 0 (λ e. omega arith);

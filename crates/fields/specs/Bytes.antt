@@ -13,3 +13,11 @@ wordOfBytes a b c d = pack (fourBytes a b c d)
 -- the bytes of a word
 abbrev pub bytesOf : ℕ → List ℕ
 bytesOf word = read 31 24 word ∷ read 23 16 word ∷ read 15 8 word ∷ read 7 0 word ∷ []
+
+-- four bytes a word; up to three bytes at the end are none
+abbrev pub wordsOfBytes : List ℕ → List ℕ
+wordsOfBytes [] = []
+wordsOfBytes (a ∷ []) = []
+wordsOfBytes (a ∷ b ∷ []) = []
+wordsOfBytes (a ∷ b ∷ c ∷ []) = []
+wordsOfBytes (a ∷ b ∷ c ∷ d ∷ bytes) = wordOfBytes a b c d ∷ wordsOfBytes bytes

@@ -1,19 +1,11 @@
 -- The block check of the acquisition host: "It passes a block as bytes, big-endian, and gets one 64-bit number." Assumes nothing.
 use Prim.Native.Nat.{ℕ, _+_, _*_, _%_, _^_}
 use mathlib.Core.Bool.{cond}
-use mathlib.Core.List.{List, [], _∷_}
+use mathlib.Core.List.{List}
 use lib.Dec.{eqb}
 use lib.ListN.{length}
-use Rattle.fields.specs.Bytes.{wordOfBytes}
+use Rattle.fields.specs.Bytes.{wordsOfBytes}
 use Rattle.reader.specs.Reader.{Out, Whole, Broken, startOf, checkFrom}
-
--- four bytes a word; up to three bytes at the end are none
-abbrev pub wordsOfBytes : List ℕ → List ℕ
-wordsOfBytes [] = []
-wordsOfBytes (a ∷ []) = []
-wordsOfBytes (a ∷ b ∷ []) = []
-wordsOfBytes (a ∷ b ∷ c ∷ []) = []
-wordsOfBytes (a ∷ b ∷ c ∷ d ∷ bytes) = wordOfBytes a b c d ∷ wordsOfBytes bytes
 
 -- "refusal x 2^32 plus the place, or the words read"
 abbrev pub numberOfOut : Out → ℕ

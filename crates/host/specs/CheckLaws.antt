@@ -7,12 +7,12 @@ use native.Mathlib.Omega.{arith}
 use borrow.Author.Tests.{eqb-true, eq-eqb}
 use lib.Dec.{eqb}
 use lib.ListN.{length, getD, drop}
-use Rattle.fields.specs.Bytes.{wordOfBytes}
+use Rattle.fields.specs.Bytes.{wordOfBytes, wordsOfBytes}
 use Rattle.reader.specs.Reader.{Out, Whole, Broken, startOf, outOf, onStep, stepAt, checkFrom}
 use Rattle.reader.specs.RunLaws.{cons-at, check-at}
 use Rattle.reader.specs.declared.Scan.{Scan}
 use Rattle.reader.specs.declared.Step.{Step}
-use Rattle.host.specs.Check.{wordsOfBytes, numberOfOut, checkNumber}
+use Rattle.host.specs.Check.{numberOfOut, checkNumber}
 
 -- the word of the four bytes from i on
 abbrev pub wordAt : List ℕ → ℕ → ℕ

@@ -9,7 +9,8 @@ use lib.Dec.{eqb}
 use lib.ListN.{length, take, drop, getD, length-drop}
 use lib.Seq.{drop-drop, take-all}
 use Rattle.fields.specs.Word.{read}
-use Rattle.fields.specs.Bytes.{wordOfBytes}
+use Rattle.fields.specs.Bytes.{wordsOfBytes}
+use Rattle.fields.specs.BytesLaws.{words-none, words-some, words-drop, words-le}
 use Rattle.items.specs.Items.{itemFrom}
 use Rattle.items.specs.declared.Form.{Form}
 use Rattle.items.specs.declared.Form.the-variants as F
@@ -18,9 +19,8 @@ use Rattle.reader.specs.declared.Scan.{Scan}
 use Rattle.reader.specs.declared.Step.the-variants as S
 use Rattle.reader.specs.declared.Judged.{Judged}
 use Rattle.reader.specs.declared.Judged.the-variants as J
-use Rattle.reader.specs.Reader.{isEnd, formAt, refusalOf, after, stepAt, withItem, judgeAt, startOf, Out, Broken, endNumber, outOf, Reading, then, just, onJudged, readFrom}
-use Rattle.reader.specs.RunLaws.{end-by}
-use Rattle.host.specs.Check.{wordsOfBytes}
+use Rattle.reader.specs.Reader.{isEnd, formAt, refusalOf, after, stepAt, withItem, judgeAt, startOf, Out, endNumber, outOf, Reading, then, just, onJudged, readFrom}
+use Rattle.reader.specs.RunLaws.{items-le, end-by}
 use Rattle.text.specs.Page.{Page, put}
 use Rattle.text.specs.PageLaws.{put-append}
 use Rattle.text.specs.Line.{Line, lineText, textOf}
@@ -36,41 +36,6 @@ use Rattle.listing.specs.Says.{BlockSays, ReadingSays}
 -- a part that is lent, from i to the end
 pub tail-is : (bytes : List ℕ) (i : ℕ) → take (length bytes - i) (drop i bytes) ≡ drop i bytes
 tail-is bytes i = take-all (length bytes - i) (drop i bytes) (omega (arith, length-drop i bytes))
-
-pub words-none : (bytes : List ℕ) → length bytes < 4 → wordsOfBytes bytes ≡ []
-words-none [] h = refl
-words-none (a ∷ []) h = refl
-words-none (a ∷ b ∷ []) h = refl
-words-none (a ∷ b ∷ c ∷ []) h = refl
-words-none (a ∷ b ∷ c ∷ d ∷ bytes) h = absurd (omega arith)
-
-pub words-some : (bytes : List ℕ) → 4 ≤ length bytes → wordsOfBytes bytes ≡ wordOfBytes (getD bytes 0 0) (getD bytes 1 0) (getD bytes 2 0) (getD bytes 3 0) ∷ wordsOfBytes (drop 4 bytes)
-words-some [] h = absurd (omega arith)
-words-some (a ∷ []) h = absurd (omega arith)
-words-some (a ∷ b ∷ []) h = absurd (omega arith)
-words-some (a ∷ b ∷ c ∷ []) h = absurd (omega arith)
-words-some (a ∷ b ∷ c ∷ d ∷ bytes) h = refl
-
-words-drop : (n : ℕ) (bytes : List ℕ) → wordsOfBytes (drop (4 * n) bytes) ≡ drop n (wordsOfBytes bytes)
-words-drop zero bytes = refl
-words-drop (suc n) bytes = ap (λ (k : ℕ). wordsOfBytes (drop k bytes)) four ∙ go bytes (λ rest. words-drop n rest)
-  where
-    four : 4 * suc n ≡ suc (suc (suc (suc (4 * n))))
-    four = omega arith
-
-    go : (bytes : List ℕ) → ((rest : List ℕ) → wordsOfBytes (drop (4 * n) rest) ≡ drop n (wordsOfBytes rest)) → wordsOfBytes (drop (suc (suc (suc (suc (4 * n))))) bytes) ≡ drop (suc n) (wordsOfBytes bytes)
-    go [] r = refl
-    go (a ∷ []) r = refl
-    go (a ∷ b ∷ []) r = refl
-    go (a ∷ b ∷ c ∷ []) r = refl
-    go (a ∷ b ∷ c ∷ d ∷ rest) r = r rest
-
-pub words-le : (bytes : List ℕ) → 4 * length (wordsOfBytes bytes) ≤ length bytes
-words-le [] = omega arith
-words-le (a ∷ []) = omega arith
-words-le (a ∷ b ∷ []) = omega arith
-words-le (a ∷ b ∷ c ∷ []) = omega arith
-words-le (a ∷ b ∷ c ∷ d ∷ bytes) = omega (arith, words-le bytes)
 
 -- ---- a reading
 
@@ -97,32 +62,6 @@ second-none bytes s h = rw (words-none bytes h)
 pub second-at : (bytes : List ℕ) (s : Scan) {word : ℕ} {j k : Judged} → 4 ≤ length bytes → word ≡ getD (wordsOfBytes bytes) 0 0 → j ≡ judgeAt s word → j ≡ k
     → secondOf ((onJudged k (s .place) (λ t. readFrom t (wordsOfBytes (drop 4 bytes)))) .items) ≡ secondOf ((readFrom s (wordsOfBytes bytes)) .items)
 second-at bytes s h e f g = ap (λ (r : Reading). secondOf (r .items)) (sym (read-at bytes 0 s (omega arith) e f g))
-
--- a record for each word read
-pub items-le : (s : Scan) (words : List ℕ) → length ((readFrom s words) .items) ≤ length words
-unfolding readFrom
-items-le s [] = omega arith
-items-le s (word ∷ words) = go (judgeAt s word) (λ t. items-le t words)
-  where
-    go : (j : Judged) → ((t : Scan) → length ((readFrom t words) .items) ≤ length words) → length ((onJudged j (s .place) (λ t. readFrom t words)) .items) ≤ suc (length words)
-    go (J.Took x t) r = omega (arith, r t)
-    go (J.Refused n) r = omega arith
-    go J.Ended r = omega arith
-
--- a refusal has a number
-pub refused-some : (s : Scan) (word : ℕ) {n : ℕ} (place : ℕ) → J.Refused n ≡ judgeAt s word → Broken n place ≡ outOf n place
-unfolding judgeAt stepAt
-refused-some s word {n} place e = go (isEnd (formAt s word)) (eqb (refusalOf s (formAt s word) word) 0) refl e
-  where
-    f : Form
-    f = formAt s word
-
-    go : (a b : Bool) → eqb (refusalOf s f word) 0 ≡ b → J.Refused n ≡ withItem word (cond a S.Ended (cond b (S.Went f (after s (itemFrom f word))) (S.Refused (refusalOf s f word)))) → Broken n place ≡ outOf n place
-    go true b h e = let z : _≡_ {A = ℕ} 0 1 = cc in absurd (omega arith)
-    go false true h e = let z : _≡_ {A = ℕ} 0 1 = cc in absurd (omega arith)
-    go false false h e =
-        let m : n ≡ refusalOf s f word = cc in
-        rw (m, h)
 
 -- a block that is whole has a word
 start-form : (word : ℕ) → isEnd (formAt startOf word) ≡ false

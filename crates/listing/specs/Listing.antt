@@ -7,7 +7,7 @@ use lib.ListN.{length}
 use Rattle.items.specs.declared.Item.{Item}
 use Rattle.items.specs.declared.Item.the-variants as I
 use Rattle.reader.specs.Reader.{Out, Whole, Broken, Reading, startOf, readFrom}
-use Rattle.host.specs.Check.{wordsOfBytes}
+use Rattle.fields.specs.Bytes.{wordsOfBytes}
 use Rattle.text.specs.Line.{Line, textOf}
 use Rattle.lines.specs.declared.Second.{Second}
 use Rattle.lines.specs.declared.Second.the-variants as S

@@ -22,9 +22,11 @@ use Rattle.items.specs.declared.Item.{Item}
 use Rattle.reader.specs.declared.Scan.{Scan}
 use Rattle.reader.specs.declared.Judged.{Judged}
 use Rattle.reader.specs.declared.Judged.the-variants as J
+use Rattle.reader.specs.RunLaws.{items-le}
 use Rattle.reader.specs.Reader.{unfinished, atLimit, isEnd, isNo, slotWrong, itemWrong, countWrong, refusalOf, onward, after, formAt, stepAt, withItem, judgeAt, startOf, Out, Whole, Broken, endOf, Reading, just, onJudged, readFrom}
 use Rattle.reader.specs.declared.Step.the-variants as S
-use Rattle.host.specs.Check.{wordsOfBytes}
+use Rattle.fields.specs.Bytes.{wordsOfBytes}
+use Rattle.fields.specs.BytesLaws.{words-le}
 use Rattle.text.specs.Line.{Cell, Number, cellOf, Line, lineOf}
 use Rattle.text.specs.LengthLaws.{Below, most, size, size-none, size-both, size-one}
 use Rattle.lines.specs.declared.Second.{Second}
@@ -34,7 +36,7 @@ use Rattle.listing.specs.declared.Listed.the-variants as L
 use Rattle.lines.specs.Lines.{blockName, setupName, eventName, clockName, clock27Name, windowName, pulseName, pairName, integralName, timeName, pedName, endName, fillName, emptyName, refusedName, refusedLine, fillLines, clockLine}
 use Rattle.listing.specs.Listing.{highIn, secondOf, recordLines, itemLines, fillerIn, fillersIn, isWhole, outLines, blockLines, linesFrom, lengthWrong, linesOf, listingOf}
 use Rattle.listing.specs.Says.{Says}
-use Rattle.listing.specs.BlockLaws.{words-le, items-le, whole-some}
+use Rattle.listing.specs.BlockLaws.{whole-some}
 
 -- ---- one record
 

@@ -1,5 +1,4 @@
 -- The lines of one record: one, none, or that of a first time word. Assumes nothing.
-use Prim.Native.Nat.{_-_}
 use mathlib.Core.Path.{_≡_, sym, ap, _∙_}
 use mathlib.Core.List.{List, [], _∷_}
 use Rattle.text.specs.Line.{Line, lineText, textOf}

@@ -4,7 +4,7 @@ ghost use mathlib.Core.List.{_++_};
 ghost use Prim.Native.Nat.{_≤_};
 ghost use lib.ListN.{getD};
 ghost use Rattle.reader.specs.Reader.{startOf, readFrom, outOf};
-ghost use Rattle.host.specs.Check.{wordsOfBytes};
+ghost use Rattle.fields.specs.Bytes.{wordsOfBytes};
 ghost use Rattle.text.specs.Page.{put};
 ghost use Rattle.text.specs.Line.{textOf};
 ghost use Rattle.lines.specs.Lines.{fillLines};

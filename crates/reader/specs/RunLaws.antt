@@ -1,20 +1,25 @@
 -- A run's laws: one word of it, what it answers without records, and the block of run A. Assumes nothing.
-use Prim.Native.Nat.{ℕ, suc, _<_}
+use Prim.Native.Nat.{ℕ, suc, _≤_, _<_}
 use mathlib.Core.Path.{_≡_, refl, ap, sym, _∙_}
 use mathlib.Core.Bool.{Bool, true, false, cond}
 use mathlib.Core.List.{List, [], _∷_}
+use native.Mathlib.Omega.{arith}
+use lib.Dec.{eqb}
 use lib.ListN.{length, getD, drop}
 use lib.Seq.{drop-cons}
 use Rattle.ground.specs.Tests.{firstOf}
 use Rattle.fields.specs.Word.{fieldAt}
 use Rattle.frame.specs.Words.{blockHeaderOf, blockHeaderFixed, blockHeaderWithin, parametersFixed, trailerOf, eventHeaderOf, triggerTimeOf, triggerTimeHighOf, triggerTimeHighFixed, fillerOf}
 use Rattle.measures.specs.Words.{timeFixed}
+use Rattle.items.specs.Items.{itemFrom}
+use Rattle.items.specs.declared.Form.{Form}
 use Rattle.items.specs.declared.Item.{Item}
 use Rattle.reader.specs.declared.Scan.{Scan}
 use Rattle.reader.specs.declared.Judged.{Judged}
+use Rattle.reader.specs.declared.Judged.the-variants as J
 use Rattle.reader.specs.declared.Step.{Step}
 use Rattle.reader.specs.declared.Step.the-variants as S
-use Rattle.reader.specs.Reader.{Reading, then, formAt, atLimit, refusalOf, onward, after, stepAt, withItem, judgeAt, startOf, Whole, Broken, unfinished, endOf, endNumber, outOf, onJudged, readFrom, onStep, checkFrom}
+use Rattle.reader.specs.Reader.{Reading, then, isEnd, formAt, atLimit, refusalOf, onward, after, stepAt, withItem, judgeAt, startOf, Whole, Broken, unfinished, endOf, endNumber, outOf, onJudged, readFrom, onStep, checkFrom}
 
 -- the list from i on, where it has not ended
 pub cons-at : (xs : List ℕ) (i j : ℕ) → i < length xs → suc i ≡ j → drop i xs ≡ getD xs i 0 ∷ drop j xs
@@ -45,6 +50,32 @@ read-at s word words e = ap (λ (x : Judged). onJudged x (s .place) (λ u. readF
 pub check-at : (s : Scan) (word : ℕ) (words : List ℕ) {t : Step} → t ≡ stepAt s word → checkFrom s (word ∷ words) ≡ onStep t (s .place) (λ u. checkFrom u words)
 unfolding checkFrom
 check-at s word words e = ap (λ (x : Step). onStep x (s .place) (λ u. checkFrom u words)) (sym e)
+
+-- a record for each word read
+pub items-le : (s : Scan) (words : List ℕ) → length ((readFrom s words) .items) ≤ length words
+unfolding readFrom
+items-le s [] = omega arith
+items-le s (word ∷ words) = go (judgeAt s word) (λ t. items-le t words)
+  where
+    go : (j : Judged) → ((t : Scan) → length ((readFrom t words) .items) ≤ length words) → length ((onJudged j (s .place) (λ t. readFrom t words)) .items) ≤ suc (length words)
+    go (J.Took x t) r = omega (arith, r t)
+    go (J.Refused n) r = omega arith
+    go J.Ended r = omega arith
+
+-- a refusal has a number
+pub refused-some : (s : Scan) (word : ℕ) {n : ℕ} (place : ℕ) → J.Refused n ≡ judgeAt s word → Broken n place ≡ outOf n place
+unfolding judgeAt stepAt
+refused-some s word {n} place e = go (isEnd (formAt s word)) (eqb (refusalOf s (formAt s word) word) 0) refl e
+  where
+    f : Form
+    f = formAt s word
+
+    go : (a b : Bool) → eqb (refusalOf s f word) 0 ≡ b → J.Refused n ≡ withItem word (cond a S.Ended (cond b (S.Went f (after s (itemFrom f word))) (S.Refused (refusalOf s f word)))) → Broken n place ≡ outOf n place
+    go true b h e = let z : _≡_ {A = ℕ} 0 1 = cc in absurd (omega arith)
+    go false true h e = let z : _≡_ {A = ℕ} 0 1 = cc in absurd (omega arith)
+    go false false h e =
+        let m : n ≡ refusalOf s f word = cc in
+        rw (m, h)
 
 -- the input's end as a number: 0 says that the block is whole
 pub end-by : (s : Scan) → endOf s ≡ outOf (endNumber s) (s .place)

@@ -1,13 +1,13 @@
 -- What an accepted call has, by name: of each table, and what is left where it accepts and where it refuses. Assumes nothing.
 use Prim.Native.Nat.{ℕ, _+_, _*_, _≤_, _<_}
 use mathlib.Core.Path.{_≡_, refl}
-use mathlib.Core.Bool.{Bool, true, false, _||_, true≢false}
+use mathlib.Core.Bool.{true, false}
 use mathlib.Core.List.{List}
 use native.Mathlib.Nat.{suc-mul, mul-le-mul-right}
 use native.Mathlib.Omega.{arith}
 use borrow.Author.Tests.{ltb-true, ltb-false, eqb-true, ne-eqb, not-false}
 use lib.ListN.{length, getD}
-use Rattle.ground.specs.TestsLaws.{none}
+use Rattle.ground.specs.TestsLaws.{or-none, none}
 use Rattle.settings.specs.declared.Settings.{Settings}
 use Rattle.settings.specs.Ranges.{settingsOk}
 use Rattle.settings.specs.Sample.{samplesOk}
@@ -23,11 +23,6 @@ done new old e = rw e
 
 pub refused : {A : Type 0} (n : ℕ) (new old : A) → (n ≡ 0 → ⊥) → ifAccepted n new old ≡ old
 refused n new old e = rw (ne-eqb n 0 e)
-
--- neither of two
-neither : (a b : Bool) → a || b ≡ false → (a ≡ false) × (b ≡ false)
-neither true b e = (e, absurd (true≢false e))
-neither false b e = (refl, e)
 
 -- ---- set up
 
@@ -66,7 +61,7 @@ pub open-event-accepted : (s : State) (number time : ℕ) → openEventNumber s 
 unfolding openEventNumber openEventTable
 open-event-accepted s number time e =
     let o = none (openEventTable s number time) refl e in
-    let turn = neither _ _ (o .1 .0) in
+    let turn = or-none _ _ (o .1 .0) in
     record {
       state = not-false _ (o .0);
       turn = not-false _ (turn .0);
@@ -143,7 +138,7 @@ pub finish-accepted : (s : State) (room : ℕ) → finishNumber s room ≡ 0 →
 unfolding finishNumber finishTable
 finish-accepted s room e =
     let o = none (finishTable s room) refl e in
-    let turn = neither _ _ (o .1 .0) in
+    let turn = or-none _ _ (o .1 .0) in
     record {
       state = not-false _ (o .0);
       turn = not-false _ (turn .0);

@@ -11,7 +11,8 @@ use Rattle.reader.specs.RunLaws.{end-by}
 use Rattle.reader.specs.declared.Scan.{Scan}
 use Rattle.reader.specs.declared.Step.{Step}
 use Rattle.host.specs.CheckLaws.{run-at, out-number, checked}
-use Rattle.host.specs.Check.{checkNumber, wordsOfBytes}
+use Rattle.fields.specs.Bytes.{wordsOfBytes}
+use Rattle.host.specs.Check.{checkNumber}
 use Rattle.host.proofs.fadc250_check.Statement.{statement}
 use Rattle.host.proofs.fadc250_check.Tie as tie
 

@@ -3,7 +3,7 @@ use Prim.Native.Nat.{ℕ}
 use mathlib.Core.Path.{ap, sym, _∙_}
 use mathlib.Core.List.{List}
 use lib.ListN.{getD}
-use Rattle.listing.specs.BlockLaws.{words-none, words-some}
+use Rattle.fields.specs.BytesLaws.{words-none, words-some}
 use borrow.Author.Needs.{needs}
 use Rattle.listing.proofs.first_word.Statement.{statement}
 use Rattle.listing.proofs.first_word.Tie as tie

@@ -8,8 +8,9 @@ use lib.ListN.{length, drop, getD}
 use Rattle.reader.specs.declared.Scan.{Scan}
 use Rattle.reader.specs.declared.Judged.{Judged}
 use Rattle.reader.specs.Reader.{startOf, just, onJudged, readFrom}
-use Rattle.host.specs.Check.{wordsOfBytes}
-use Rattle.listing.specs.BlockLaws.{tail-is, read-at, read-end, refused-some, Left, left-all, left-is, left-took, left-none}
+use Rattle.fields.specs.Bytes.{wordsOfBytes}
+use Rattle.reader.specs.RunLaws.{refused-some}
+use Rattle.listing.specs.BlockLaws.{tail-is, read-at, read-end, Left, left-all, left-is, left-took, left-none}
 use Rattle.listing.proofs.list_block.Statement.{statement}
 use Rattle.listing.proofs.list_block.Tie as tie
 

@@ -4,7 +4,7 @@ use mathlib.Core.Path.{_≡_, refl, sym, _∙_}
 use native.Mathlib.Omega.{arith}
 use borrow.Author.Needs.{needs}
 use lib.ListN.{length, drop}
-use Rattle.host.specs.Check.{wordsOfBytes}
+use Rattle.fields.specs.Bytes.{wordsOfBytes}
 use Rattle.text.specs.Page.{put}
 use Rattle.text.specs.Line.{textOf}
 use Rattle.text.specs.LineLaws.{say-none}

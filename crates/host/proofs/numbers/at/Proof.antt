@@ -1,6 +1,5 @@
 -- `host::numbers::at` meets its contract. Assumes nothing.
 use mathlib.Core.Path.{sym}
-use Prim.Native.Nat.{_-_}
 use Rattle.host.specs.NumbersLaws.{getD-out}
 use borrow.Author.Needs.{needs}
 use Rattle.host.proofs.numbers.at.Statement.{statement}

@@ -1,6 +1,5 @@
 -- `host::numbers::head_limits` meets its contract. Assumes nothing.
 use mathlib.Core.Path.{refl}
-use Prim.Native.Nat.{_-_}
 use Rattle.host.specs.Face.{headLimits}
 use Rattle.host.proofs.numbers.head_limits.Statement.{statement}
 use Rattle.host.proofs.numbers.head_limits.Tie as tie

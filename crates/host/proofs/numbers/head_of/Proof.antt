@@ -1,6 +1,5 @@
 -- `host::numbers::head_of` meets its contract. Assumes nothing.
 use native.Mathlib.Omega.{arith}
-use Prim.Native.Nat.{_-_}
 use Rattle.host.specs.Face.{headOf}
 use borrow.Author.Needs.{needs}
 use Rattle.host.proofs.numbers.head_of.Statement.{statement}

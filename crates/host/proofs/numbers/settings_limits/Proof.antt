@@ -1,6 +1,5 @@
 -- `host::numbers::settings_limits` meets its contract. Assumes nothing.
 use mathlib.Core.Path.{refl}
-use Prim.Native.Nat.{_-_}
 use Rattle.host.specs.Face.{settingsLimits}
 use Rattle.host.proofs.numbers.settings_limits.Statement.{statement}
 use Rattle.host.proofs.numbers.settings_limits.Tie as tie
