@@ -1,4 +1,4 @@
--- Demand 2: a block is accepted exactly if it is the words of records of the layout, undefined bits of types 14 and 15 aside. Assumes nothing.
+-- Demand 2: a block is accepted exactly if it is the words of a well-formed tree's records, undefined bits of types 14 and 15 aside. Assumes nothing.
 use Prim.Native.Nat.{ℕ, _*_, _/_, _^_}
 use mathlib.Core.Path.{_≡_, refl, sym, ap, _∙_, subst}
 use mathlib.Core.Bool.{true}
@@ -17,6 +17,9 @@ use Rattle.claims.specs.NothingLost.{AllWords, Spell, nothing-lost}
 use Rattle.claims.specs.Layout.{Follow, IsBlock}
 use Rattle.claims.specs.LayoutLaws.{Says, says, read-step, behind}
 use Rattle.claims.specs.AcceptedLaws.{accepted-block}
+use Rattle.claims.specs.Grammar.{Tree, recordsOf, WellFormed}
+use Rattle.claims.specs.GrammarLaws.{tree-is-block}
+use Rattle.claims.specs.ParseLaws.{Parsed, block-has-tree}
 
 -- ---- a word with undefined bits
 
@@ -85,16 +88,33 @@ spell-all [] (w ∷ ws) p e = absurd (omega (arith, e))
 spell-all (x ∷ xs) [] p e = p
 spell-all (x ∷ xs) (w ∷ ws) p e = (p .0, spell-all xs ws (p .1) (omega (arith, e)))
 
--- accepted to the last word: then the words are those of records of the layout
-pub accepted-is : (ws : List ℕ) → AllWords ws → (readFrom startOf ws) .out ≡ Whole (length ws) → IsBlock ((readFrom startOf ws) .items) × Spelt ((readFrom startOf ws) .items) ws
+-- accepted to the last word: then the words are those of records that stand as the layout asks
+accepted-is : (ws : List ℕ) → AllWords ws → (readFrom startOf ws) .out ≡ Whole (length ws) → IsBlock ((readFrom startOf ws) .items) × Spelt ((readFrom startOf ws) .items) ws
 accepted-is ws a e =
     let xs : List Item = (readFrom startOf ws) .items in
     let n : length ws ≡ length xs = rw e at (records-before ws) in
     (accepted-block ws (length ws) e, spell-all xs ws (nothing-lost startOf ws a) (sym n))
 
--- and the other way: words of records of the layout are accepted, and read as those records
-pub is-accepted : (ws : List ℕ) (xs : List Item) → IsBlock xs → Spelt xs ws → readFrom startOf ws ≡ record { items = xs; out = Whole (length ws) }
+-- and the other way: words of such records are accepted, and read as those records
+is-accepted : (ws : List ℕ) (xs : List Item) → IsBlock xs → Spelt xs ws → readFrom startOf ws ≡ record { items = xs; out = Whole (length ws) }
 is-accepted ws xs h p =
     let r : readFrom startOf ws ≡ record { items = xs; out = Whole (behind startOf xs .place) } = read-spelt startOf xs ws h p in
     let n : behind startOf xs .place ≡ length xs = rw r at (records-before ws) in
     r ∙ ap (λ (k : ℕ). record { items = xs; out = Whole k }) (n ∙ spelt-length xs ws p)
+
+-- ---- the layout said on its own
+
+-- a well-formed tree, and the words of its records
+pub record SpeltTree (ws : List ℕ) : Type 0 where
+  pub tree : Tree
+  pub formed : WellFormed tree
+  pub spelt : Spelt (recordsOf tree) ws
+
+pub accepted-tree : (ws : List ℕ) → AllWords ws → (readFrom startOf ws) .out ≡ Whole (length ws) → SpeltTree ws
+accepted-tree ws a e =
+    let h = accepted-is ws a e in
+    let p : Parsed ((readFrom startOf ws) .items) = block-has-tree _ (h .0) in
+    record { tree = p .tree; formed = p .formed; spelt = subst (λ (xs : List Item). Spelt xs ws) (sym (p .are)) (h .1) }
+
+pub tree-accepted : (ws : List ℕ) (t : SpeltTree ws) → readFrom startOf ws ≡ record { items = recordsOf (t .tree); out = Whole (length ws) }
+tree-accepted ws t = is-accepted ws (recordsOf (t .tree)) (tree-is-block (t .tree) (t .formed)) (t .spelt)

@@ -1,4 +1,4 @@
--- The layout of a block, said of records: which may stand where, with which fields. No word is read here. Assumes nothing.
+-- The layout of a block by the reader's own questions, said of records: the step between the reader and `Grammar`. No word is read here. Assumes nothing.
 use mathlib.Core.Path.{_≡_}
 use mathlib.Core.Bool.{true, false}
 use mathlib.Core.List.{List, [], _∷_}
