@@ -17,7 +17,7 @@ use Rattle.claims.specs.NothingLost.{AllWords, Spell, nothing-lost}
 use Rattle.claims.specs.Layout.{Follow, IsBlock}
 use Rattle.claims.specs.LayoutLaws.{Says, says, read-step, behind}
 use Rattle.claims.specs.AcceptedLaws.{accepted-block}
-use Rattle.claims.specs.Grammar.{Tree, recordsOf, WellFormed}
+use Rattle.claims.specs.Grammar.{recordsOf, Spelt, SpeltTree}
 use Rattle.claims.specs.GrammarLaws.{tree-is-block}
 use Rattle.claims.specs.ParseLaws.{Parsed, block-has-tree}
 
@@ -62,13 +62,6 @@ says-clean (I.Filler r) w h e =
 
 -- ---- all words
 
--- the words are those of the records, one each, but for undefined bits
-abbrev pub Spelt : List Item → List ℕ → Type 0
-Spelt [] [] = Unit {0}
-Spelt [] (w ∷ ws) = ⊥
-Spelt (x ∷ xs) [] = ⊥
-Spelt (x ∷ xs) (w ∷ ws) = (wordOf x ≡ cleanOf (formOf x) w) × Spelt xs ws
-
 read-spelt : (s : Scan) (xs : List Item) (ws : List ℕ) → Follow s xs → Spelt xs ws → readFrom s ws ≡ record { items = xs; out = Whole (behind s xs .place) }
 unfolding readFrom endOf atLimit
 read-spelt s [] [] h p = rw h
@@ -103,12 +96,6 @@ is-accepted ws xs h p =
     r ∙ ap (λ (k : ℕ). record { items = xs; out = Whole k }) (n ∙ spelt-length xs ws p)
 
 -- ---- the layout said on its own
-
--- a well-formed tree, and the words of its records
-pub record SpeltTree (ws : List ℕ) : Type 0 where
-  pub tree : Tree
-  pub formed : WellFormed tree
-  pub spelt : Spelt (recordsOf tree) ws
 
 pub accepted-tree : (ws : List ℕ) → AllWords ws → (readFrom startOf ws) .out ≡ Whole (length ws) → SpeltTree ws
 accepted-tree ws a e =

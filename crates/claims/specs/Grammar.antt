@@ -19,7 +19,7 @@ use Rattle.raw.specs.declared.pair.SamplePair.{SamplePair}
 use Rattle.measures.specs.declared.integral.PulseIntegral.{PulseIntegral}
 use Rattle.measures.specs.declared.time.PulseTime.{PulseTime}
 use Rattle.measures.specs.declared.pedestal.PulsePedestal.{PulsePedestal}
-use Rattle.items.specs.Items.{fits}
+use Rattle.items.specs.Items.{wordOf, fits, formOf, cleanOf}
 use Rattle.items.specs.declared.Item.{Item}
 use Rattle.items.specs.declared.Item.the-variants as I
 
@@ -182,3 +182,18 @@ TreeOk (empty r) = Unit {0}
 pub record WellFormed (t : Tree) : Type 0 where
   pub tree : TreeOk t
   pub widths : Each (λ x. fits x ≡ true) (recordsOf t)
+
+-- ---- its words
+
+-- the words are those of the records, one each, but for undefined bits
+abbrev pub Spelt : List Item → List ℕ → Type 0
+Spelt [] [] = Unit {0}
+Spelt [] (w ∷ ws) = ⊥
+Spelt (x ∷ xs) [] = ⊥
+Spelt (x ∷ xs) (w ∷ ws) = (wordOf x ≡ cleanOf (formOf x) w) × Spelt xs ws
+
+-- a well-formed tree, and the words of its records
+pub record SpeltTree (ws : List ℕ) : Type 0 where
+  pub tree : Tree
+  pub formed : WellFormed tree
+  pub spelt : Spelt (recordsOf tree) ws

@@ -7,8 +7,7 @@ use Rattle.reader.specs.Reader.{onward}
 use Rattle.reader.specs.declared.Scan.{Scan}
 use Rattle.records.specs.declared.answer.Record.{Record}
 use Rattle.records.specs.declared.answer.Next.the-variants as N
-use Rattle.records.specs.Next.{nextAt}
-use Rattle.records.specs.NextLaws.{Made}
+use Rattle.records.specs.Next.{nextAt, Made}
 
 -- from a scan on: the items of the records that `next` answers, one after the other, and the block's words
 pub data Reads (words : List ℕ) : Scan → List Item → ℕ → Type 0 where

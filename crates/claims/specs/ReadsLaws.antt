@@ -15,8 +15,8 @@ use Rattle.records.specs.declared.answer.Record.{Record}
 use Rattle.records.specs.declared.answer.Record.the-variants as R
 use Rattle.records.specs.declared.answer.Next.{Next}
 use Rattle.records.specs.declared.answer.Next.the-variants as N
-use Rattle.records.specs.Next.{nextFrom, nextAt}
-use Rattle.records.specs.NextLaws.{Made, SaysNext, next-says}
+use Rattle.records.specs.Next.{Made, nextFrom, nextAt}
+use Rattle.records.specs.NextLaws.{SaysNext, next-says}
 use Rattle.writer.specs.declared.State.{State}
 use Rattle.writer.specs.declared.Finished.{Finished}
 use Rattle.writer.specs.Calls.{endItems, FinishSays}

@@ -6,8 +6,8 @@ use mathlib.Core.Bool.{Bool, true, false, not, cond}
 use mathlib.Core.List.{List, [], _∷_, map}
 use lib.Dec.{eqb}
 use lib.ListN.{length}
-use Rattle.ground.specs.Tests.{firstOf}
-use Rattle.ground.specs.TestsLaws.{FirstIs, first-is, is-first}
+use Rattle.ground.specs.Tests.{firstOf, FirstIs}
+use Rattle.ground.specs.TestsLaws.{first-is, is-first}
 use Rattle.settings.specs.declared.Settings.{Settings}
 use Rattle.settings.specs.Ranges.{settingsOk}
 use Rattle.settings.specs.Refusal.{numberOf}

@@ -1,11 +1,13 @@
 -- Document 01, "Reading", record by record: "Each item answers one of a set of named records carrying its fields." Assumes nothing.
-use Prim.Native.Nat.{ℕ, _+_}
+use Prim.Native.Nat.{ℕ, _+_, _-_, _^_, _≤_, min}
+use mathlib.Core.Path.{_≡_}
 use mathlib.Core.Bool.{Bool, true, false, cond, _||_}
-use mathlib.Core.List.{List, [], _∷_}
+use mathlib.Core.List.{List, [], _∷_, map}
 use lib.Dec.{eqb, leb}
 use lib.ListN.{length, take, drop}
 use Rattle.fields.specs.Tag.{isContinuation}
 use Rattle.frame.specs.declared.trigger_time.TriggerTime.{TriggerTime}
+use Rattle.raw.specs.declared.pair.SamplePair.{SamplePair}
 use Rattle.items.specs.declared.Item.{Item}
 use Rattle.items.specs.declared.Item.the-variants as I
 use Rattle.reader.specs.Reader.{mostPairs, onward, stepAt, judgeAt, endNumber}
@@ -133,3 +135,47 @@ nextFrom s (word ∷ words) = onJudged (judgeAt s word) (s .place) words
 -- the words are those from the block's first on
 unfoldable pub nextAt : List ℕ → Scan → Next
 nextAt words s = nextFrom s (drop (s .place) words)
+
+-- ---- what a record is made of
+
+-- counts grow up to their largest value
+abbrev pub mostCount : ℕ
+mostCount = 2 ^ 32 - 1
+
+abbrev pub fillerAt : ℕ → Item
+fillerAt slot = I.Filler (record { slot = slot })
+
+-- each of the items is x
+abbrev pub AllAre : Item → List Item → Type 0
+AllAre x [] = Unit {0}
+AllAre x (y ∷ ys) = (y ≡ x) × AllAre x ys
+
+-- a raw item: behind its head stand its pairs, from the place after the head on
+pub record PairsMade (head : Item) (place : ℕ) (p : Pairs) (items : List Item) : Type 0 where
+  pub at : p .place ≡ place
+  pub pairs : List SamplePair
+  pub all : items ≡ head ∷ map (λ x. I.Pair x) pairs
+  pub many : p .count ≡ min (length pairs) mostCount
+
+pub record FillersMade (slot n : ℕ) (items : List Item) : Type 0 where
+  pub some : 1 ≤ length items
+  pub all : AllAre (fillerAt slot) items
+  pub many : n ≡ min (length items) mostCount
+
+-- the items that a record is made of; place is that of the word after its first
+abbrev pub Made : ℕ → Record → List Item → Type 0
+Made place (R.Block r) items = items ≡ I.Block r ∷ []
+Made place (R.Parameters r) items = items ≡ I.Parameters r ∷ []
+Made place (R.Event r) items = items ≡ I.Event r ∷ []
+Made place (R.Time27 r) items = items ≡ I.Clock r ∷ []
+Made place (R.Time48 r high) items = items ≡ I.Clock r ∷ I.ClockHigh high ∷ []
+Made place (R.TimeHigh r) items = items ≡ I.ClockHigh r ∷ []
+Made place (R.Window r p) items = PairsMade (I.Window r) place p items
+Made place (R.Raw r p) items = PairsMade (I.Raw r) place p items
+Made place (R.Pair r) items = items ≡ I.Pair r ∷ []
+Made place (R.Integral r) items = items ≡ I.Integral r ∷ []
+Made place (R.Time r) items = items ≡ I.Time r ∷ []
+Made place (R.Pedestal r) items = items ≡ I.Pedestal r ∷ []
+Made place (R.Trailer r) items = items ≡ I.Trailer r ∷ []
+Made place (R.Fillers slot n) items = FillersMade slot n items
+Made place (R.Empty r) items = items ≡ I.Empty r ∷ []

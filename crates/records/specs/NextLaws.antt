@@ -1,5 +1,5 @@
 -- Reading on answers what the run over the same words says: the records one after the other, with nothing left out. Assumes nothing.
-use Prim.Native.Nat.{ℕ, suc, _+_, _-_, _^_, _≤_, min}
+use Prim.Native.Nat.{ℕ, suc, _+_, _≤_, min}
 use mathlib.Core.Path.{_≡_, refl, sym, ap, _∙_}
 use mathlib.Core.Bool.{Bool, true, false, cond, false≢true, _||_}
 use mathlib.Core.List.{List, [], _∷_, map}
@@ -37,7 +37,7 @@ use Rattle.records.specs.declared.answer.Record.{Record}
 use Rattle.records.specs.declared.answer.Record.the-variants as R
 use Rattle.records.specs.declared.answer.Next.{Next}
 use Rattle.records.specs.declared.answer.Next.the-variants as N
-use Rattle.records.specs.Next.{pairDue, onPair, pairsFrom, withPairs, onHigh, withHigh, timeFrom, onFiller, fillersFrom, recordFrom, onJudged, nextFrom}
+use Rattle.records.specs.Next.{mostCount, fillerAt, AllAre, PairsMade, Made, pairDue, onPair, pairsFrom, withPairs, onHigh, withHigh, timeFrom, onFiller, fillersFrom, recordFrom, onJudged, nextFrom}
 
 -- ---- where a pair is due, only a pair is taken
 
@@ -78,9 +78,6 @@ pair-taken t word {f} {u} due e =
     judge-by t word e ∙ ap (λ (g : Form). J.Took (itemFrom g word) u) is
 
 -- ---- behind the trailer, only a filler of the block's slot is taken
-
-abbrev fillerAt : ℕ → Item
-fillerAt slot = I.Filler (record { slot = slot })
 
 filler-form : (p : Phase) (bit type : ℕ) → unfinished p ≡ false → let f = cond (eqb bit 0) (moreIn p) (formIn (otherIn p) (allowedIn p) type) in isEnd f ≡ false → f ≡ F.Filler
 filler-form p bit type end ok = go (eqb bit 0) p end ok
@@ -139,9 +136,6 @@ filler-taken t word {f} end e =
     sym (a .form) ∙ filler-form (t .phase) (read 31 31 word) (read 30 27 word) end (ap isEnd (a .form) ∙ a .here)
 
 -- ---- the pairs and the fillers of a run
-
-abbrev mostCount : ℕ
-mostCount = 2 ^ 32 - 1
 
 onward-le : (n : ℕ) → onward n ≤ mostCount
 unfolding onward
@@ -213,11 +207,6 @@ pairs-say t n (word ∷ words) h = by-due (pairDue (t .phase) (isContinuation wo
     by-due true due r = by-step (stepAt t word) refl due r
     by-due false due r = no-pair t n (word ∷ words) h
 
--- each of the items is x
-abbrev pub AllAre : Item → List Item → Type 0
-AllAre x [] = Unit {0}
-AllAre x (y ∷ ys) = (y ≡ x) × AllAre x ys
-
 -- fillers in a row, then the run from the scan behind them
 record Filled (slot n : ℕ) (t : Scan) (words : List ℕ) (x : Next) : Type 0 where
   count : ℕ
@@ -255,36 +244,6 @@ fillers-say slot n t (word ∷ words) h end same = go (stepAt t word) refl (λ u
     go S.Ended e r = no-filler slot n t (word ∷ words) h
 
 -- ---- what reading on answers
-
--- a raw item: behind its head stand its pairs, from the place after the head on
-pub record PairsMade (head : Item) (place : ℕ) (p : Pairs) (items : List Item) : Type 0 where
-  pub at : p .place ≡ place
-  pub pairs : List SamplePair
-  pub all : items ≡ head ∷ map (λ x. I.Pair x) pairs
-  pub many : p .count ≡ min (length pairs) mostCount
-
-pub record FillersMade (slot n : ℕ) (items : List Item) : Type 0 where
-  pub some : 1 ≤ length items
-  pub all : AllAre (fillerAt slot) items
-  pub many : n ≡ min (length items) mostCount
-
--- the items that a record is made of; place is that of the word after its first
-abbrev pub Made : ℕ → Record → List Item → Type 0
-Made place (R.Block r) items = items ≡ I.Block r ∷ []
-Made place (R.Parameters r) items = items ≡ I.Parameters r ∷ []
-Made place (R.Event r) items = items ≡ I.Event r ∷ []
-Made place (R.Time27 r) items = items ≡ I.Clock r ∷ []
-Made place (R.Time48 r high) items = items ≡ I.Clock r ∷ I.ClockHigh high ∷ []
-Made place (R.TimeHigh r) items = items ≡ I.ClockHigh r ∷ []
-Made place (R.Window r p) items = PairsMade (I.Window r) place p items
-Made place (R.Raw r p) items = PairsMade (I.Raw r) place p items
-Made place (R.Pair r) items = items ≡ I.Pair r ∷ []
-Made place (R.Integral r) items = items ≡ I.Integral r ∷ []
-Made place (R.Time r) items = items ≡ I.Time r ∷ []
-Made place (R.Pedestal r) items = items ≡ I.Pedestal r ∷ []
-Made place (R.Trailer r) items = items ≡ I.Trailer r ∷ []
-Made place (R.Fillers slot n) items = FillersMade slot n items
-Made place (R.Empty r) items = items ≡ I.Empty r ∷ []
 
 -- a record: its items stand first in the run, and the rest is the run from the scan behind it
 pub record Taken (s : Scan) (words : List ℕ) (x : Record) (u : Scan) : Type 0 where
