@@ -23,12 +23,11 @@ use Rattle.reader.specs.declared.Phase.the-variants as P
 use Rattle.reader.specs.declared.Scan.{Scan}
 use Rattle.reader.specs.Reader.{mostPairs, pairsOf, moreIn, formFor, unfinished, atLimit, slotWrong, flagWrong, itemWrong, countWrong, onward, paired, filled, slotAfter, after, startOf}
 use Rattle.claims.specs.Layout.{Stands, Follow, IsBlock}
-use Rattle.claims.specs.PassLaws.{follow-behind, Inside, inside-none, inside-cons, inside-append, innerAt, edgeAt, inner-edge, inner-form, edge-form, not-limit, both, onward-one}
-use Rattle.claims.specs.WrittenLaws.{Fine}
+use Rattle.claims.specs.PassLaws.{Inside, inside-none, inside-append, Inner, Edge, inner-edge, not-limit, both, onward-one}
 use Rattle.claims.specs.Grammar.{Piece, window, raw, integral, time, pedestal, Clock, no-clock, clock27, clock48, EventTree, Setup, no-setup, setup, BlockTree, Tree, block, empty, eachPair, pieceOf, piecesOf, clockOf, eventOf, eventsOf, setupOf, bodyOf, recordsOf, Each, LastPair, full, short, WindowPairs, RawPairs, PieceOk, ClockOk, EventOk, BlockOk, WellFormed}
 
 -- every field is within its bits
-abbrev Widths : List Item → Type 0
+abbrev pub Widths : List Item → Type 0
 Widths xs = Each (λ x. fits x ≡ true) xs
 
 widths-split : (xs ys : List Item) → Widths (xs ++ ys) → Widths xs × Widths ys
@@ -36,17 +35,27 @@ widths-split [] ys w = (tt, w)
 widths-split (x ∷ xs) ys w = let p = widths-split xs ys (w .1) in ((w .0, p .0), p .1)
 
 -- one record that stands here, and what comes behind it
-step : (s : Scan) (x : Item) (xs : List Item) (left : ℕ) (ok : Phase → Bool) → s .place < 4194303 → formFor s (bitOf (formOf x)) (typeOf (formOf x)) ≡ formOf x → slotWrong s x ≡ false
+step : (s : Scan) (x : Item) (xs : List Item) (left : ℕ) (ok : Phase → Type 0) → s .place < 4194303 → formFor s (bitOf (formOf x)) (typeOf (formOf x)) ≡ formOf x → slotWrong s x ≡ false
     → itemWrong s x ≡ false → countWrong s x ≡ false → fits x ≡ true → slotAfter s x ≡ s .slot → (onward (s .place) ≡ s .place + 1 → Inside (after s x) xs left ok)
     → Inside s (x ∷ xs) left ok
+unfolding after
 step s x xs left ok l type slot fields count widths e rest =
-    inside-cons s x xs left ok l (record { limit = not-limit s l; type = type; slot = slot; fields = fields; count = count; widths = widths }) e (rest (onward-one (s .place) l))
+    let r = rest (onward-one (s .place) l) in
+    let here : Stands s x = record { limit = not-limit s l; type = type; slot = slot; fields = fields; count = count; widths = widths } in
+    record {
+      to = r .to;
+      passes = λ ys q. (here, r .passes ys q);
+      place = r .place ∙ omega (arith, onward-one (s .place) l);
+      slot = r .slot ∙ e;
+      rest = r .rest;
+      phase = r .phase;
+    }
 
 -- ---- pairs
 
 pair-step : (s : Scan) (p : SamplePair) (xs : List Item) → LastPair p → moreIn (s .phase) ≡ F.Pair → flagWrong (s .phase) (p .nosecond) ≡ false → s .place < 4194303 → fits (I.Pair p) ≡ true
-    → (onward (s .place) ≡ s .place + 1 → Inside (after s (I.Pair p)) xs (s .left) innerAt) → Inside s (I.Pair p ∷ xs) (s .left) innerAt
-pair-step s p xs k m f l w = step s (I.Pair p) xs (s .left) innerAt l m refl (clean k) refl w refl
+    → (onward (s .place) ≡ s .place + 1 → Inside (after s (I.Pair p)) xs (s .left) Inner) → Inside s (I.Pair p ∷ xs) (s .left) Inner
+pair-step s p xs k m f l w = step s (I.Pair p) xs (s .left) Inner l m refl (clean k) refl w refl
   where
     clean : LastPair p → itemWrong s (I.Pair p) ≡ false
     clean (full v) = rw (v .first, f, v .second)
@@ -58,12 +67,12 @@ windowAt zero = P.Items
 windowAt (suc w) = P.Window (pairsOf (suc w)) (eqb (suc w % 2) 1)
 
 window-inside : (w : ℕ) (ps : List SamplePair) (s : Scan) → WindowPairs w ps → s .phase ≡ windowAt w → s .place + length (eachPair ps) < 4194303 → Widths (eachPair ps)
-    → Inside s (eachPair ps) (s .left) innerAt
-unfolding pairsOf after innerAt
-window-inside zero [] s v e l f = inside-none s innerAt (ap innerAt e)
+    → Inside s (eachPair ps) (s .left) Inner
+unfolding pairsOf after
+window-inside zero [] s v e l f = inside-none s Inner (rw e (λ i n. refl))
 window-inside zero (p ∷ ps) s v e l f = absurd v
 window-inside (suc zero) [] s v e l f = absurd v
-window-inside (suc zero) (p ∷ []) s v e l f = pair-step s p [] (short v) (ap moreIn e) (rw (e, v .second)) (omega arith) (f .0) (λ k. inside-none _ innerAt (rw e))
+window-inside (suc zero) (p ∷ []) s v e l f = pair-step s p [] (short v) (ap moreIn e) (rw (e, v .second)) (omega arith) (f .0) (λ k. inside-none _ Inner (rw e (λ i n. refl)))
 window-inside (suc zero) (p ∷ q ∷ ps) s v e l f = absurd v
 window-inside (suc (suc n)) [] s v e l f = absurd v
 window-inside (suc (suc n)) (p ∷ ps) s v e l f =
@@ -82,79 +91,83 @@ window-inside (suc (suc n)) (p ∷ ps) s v e l f =
         rw (lt-leb (pairsOf (suc (suc (suc n)))) 1 (omega arith), m, o)
 
 raw-inside : (n : ℕ) (ps : List SamplePair) (s : Scan) → RawPairs ps → length ps ≤ n → n ≤ 250 → s .phase ≡ P.Raw n → s .place + length (eachPair ps) < 4194303 → Widths (eachPair ps)
-    → Inside s (eachPair ps) (s .left) innerAt
-unfolding mostPairs after innerAt
+    → Inside s (eachPair ps) (s .left) Inner
+unfolding mostPairs after
 raw-inside n [] s v c m e l f = absurd v
 raw-inside n (p ∷ []) s v c m e l f =
-    pair-step s p [] v (rw (e, ne-eqb n 0 (λ q. omega arith))) (rw e) (omega arith) (f .0) (λ k. inside-none _ innerAt (rw e (few (eqb (p .nosecond) 1))))
+    pair-step s p [] v (rw (e, ne-eqb n 0 (λ q. omega arith))) (rw e) (omega arith) (f .0) (λ k. inside-none _ Inner (rw e (few (eqb (p .nosecond) 1))))
   where
-    few : (b : Bool) → innerAt (P.Raw (cond b 0 (n - 1))) ≡ true
-    few true = refl
-    few false = lt-ltb (n - 1) 250 (omega arith)
+    few : (b : Bool) → Inner (P.Raw (cond b 0 (n - 1)))
+    few true k i = refl
+    few false k i = rw (lt-ltb (n - 1) 250 (omega arith))
 raw-inside n (p ∷ q ∷ ps) s v c m e l f =
     pair-step s p (eachPair (q ∷ ps)) (full (v .0)) (rw (e, ne-eqb n 0 (λ q. omega arith))) (rw e) (omega arith) (f .0)
     (λ k. raw-inside (n - 1) (q ∷ ps) _ (v .1) (omega arith) (omega arith) (rw (e, v .0 .second)) (omega arith) (f .1))
 
 -- ---- an event
 
+-- records that may stand wherever an item may, and leave the reading where the next may stand
+abbrev Fine : List Item → Type 0
+Fine xs = (s : Scan) → Inner (s .phase) → s .place + length xs < 4194303 → Inside s xs (s .left) Inner
+
 piece-fine : (x : Piece) → PieceOk x → Widths (pieceOf x) → Fine (pieceOf x)
-unfolding after innerAt R.windowWithin mostPairs
+unfolding after R.windowWithin mostPairs
 piece-fine (window r ps) v f s h l =
-    step s _ (eachPair ps) (s .left) innerAt (omega arith) (inner-form (s .phase) 4 h refl) refl (ap not (both (le-leb 1 (r .width) (v .0)) (le-leb (r .width) 500 (v .1 .0)))) refl (f .0) refl
+    step s _ (eachPair ps) (s .left) Inner (omega arith) (h 4 refl) refl (ap not (both (le-leb 1 (r .width) (v .0)) (le-leb (r .width) 500 (v .1 .0)))) refl (f .0) refl
     (λ k. window-inside (r .width) ps _ (v .1 .1) (start (r .width) (v .0)) (omega arith) (f .1))
   where
     start : (w : ℕ) → 1 ≤ w → P.Window (pairsOf w) (eqb (w % 2) 1) ≡ windowAt w
     start zero h = absurd (omega arith)
     start (suc w) h = refl
 piece-fine (raw r ps) v f s h l =
-    step s _ (eachPair ps) (s .left) innerAt (omega arith) (inner-form (s .phase) 6 h refl) refl refl refl (f .0) refl
+    step s _ (eachPair ps) (s .left) Inner (omega arith) (h 6 refl) refl refl refl (f .0) refl
     (λ k. raw-inside 250 ps _ (v .1) (v .0) (omega arith) refl (omega arith) (f .1))
-piece-fine (integral r) v f s h l = step s _ [] (s .left) innerAt (omega arith) (inner-form (s .phase) 7 h refl) refl refl refl (f .0) refl (λ k. inside-none _ innerAt refl)
-piece-fine (time r) v f s h l = step s _ [] (s .left) innerAt (omega arith) (inner-form (s .phase) 8 h refl) refl refl refl (f .0) refl (λ k. inside-none _ innerAt refl)
-piece-fine (pedestal r) v f s h l = step s _ [] (s .left) innerAt (omega arith) (inner-form (s .phase) 10 h refl) refl refl refl (f .0) refl (λ k. inside-none _ innerAt refl)
+piece-fine (integral r) v f s h l = step s _ [] (s .left) Inner (omega arith) (h 7 refl) refl refl refl (f .0) refl (λ k. inside-none _ Inner (λ i n. refl))
+piece-fine (time r) v f s h l = step s _ [] (s .left) Inner (omega arith) (h 8 refl) refl refl refl (f .0) refl (λ k. inside-none _ Inner (λ i n. refl))
+piece-fine (pedestal r) v f s h l = step s _ [] (s .left) Inner (omega arith) (h 10 refl) refl refl refl (f .0) refl (λ k. inside-none _ Inner (λ i n. refl))
 
-inside-fine : (s : Scan) (xs ys : List Item) (left : ℕ) → s .place + length (xs ++ ys) < 4194303 → Inside s xs left innerAt → Fine ys → Inside s (xs ++ ys) left innerAt
+inside-fine : (s : Scan) (xs ys : List Item) (left : ℕ) → s .place + length (xs ++ ys) < 4194303 → Inside s xs left Inner → Fine ys → Inside s (xs ++ ys) left Inner
 inside-fine s xs ys left l a b =
-    inside-append s xs ys left left innerAt innerAt a (λ t p q r e. subst (λ (n : ℕ). Inside t ys n innerAt) r (b t e (omega (arith, p, length-append xs ys))))
+    inside-append s xs ys left left Inner Inner a (λ t p q r e. subst (λ (n : ℕ). Inside t ys n Inner) r (b t e (omega (arith, p, length-append xs ys))))
 
 pieces-fine : (xs : List Piece) → Each PieceOk xs → Widths (piecesOf xs) → Fine (piecesOf xs)
-pieces-fine [] v f s h l = inside-none s innerAt h
+pieces-fine [] v f s h l = inside-none s Inner h
 pieces-fine (x ∷ xs) v f s h l =
     let w = widths-split (pieceOf x) (piecesOf xs) f in
     inside-fine s (pieceOf x) (piecesOf xs) (s .left) l (piece-fine x (v .0) (w .0) s h (omega (arith, length-append (pieceOf x) (piecesOf xs)))) (pieces-fine xs (v .1) (w .1))
 
-clock-inside : (c : Clock) (s : Scan) → ClockOk c → s .phase ≡ P.Opened → s .place + length (clockOf c) < 4194303 → Widths (clockOf c) → Inside s (clockOf c) (s .left) innerAt
-unfolding after innerAt
-clock-inside no-clock s v e l f = inside-none s innerAt (ap innerAt e)
-clock-inside (clock27 r) s v e l f = step s _ [] (s .left) innerAt (omega arith) (rw e) refl refl refl (f .0) refl (λ k. inside-none _ innerAt refl)
+clock-inside : (c : Clock) (s : Scan) → ClockOk c → s .phase ≡ P.Opened → s .place + length (clockOf c) < 4194303 → Widths (clockOf c) → Inside s (clockOf c) (s .left) Inner
+unfolding after
+clock-inside no-clock s v e l f = inside-none s Inner (rw e (λ i n. rw n))
+clock-inside (clock27 r) s v e l f = step s _ [] (s .left) Inner (omega arith) (rw e) refl refl refl (f .0) refl (λ k. inside-none _ Inner (λ i n. refl))
 clock-inside (clock48 r high) s v e l f =
-    step s _ _ (s .left) innerAt (omega arith) (rw e) refl refl refl (f .0) refl
-    (λ k. step _ (I.ClockHigh high) [] (s .left) innerAt (omega arith) refl refl (ap not (eq-eqb _ _ v)) refl (f .1 .0) refl (λ k. inside-none _ innerAt refl))
+    step s _ _ (s .left) Inner (omega arith) (rw e) refl refl refl (f .0) refl
+    (λ k. step _ (I.ClockHigh high) [] (s .left) Inner (omega arith) refl refl (ap not (eq-eqb _ _ v)) refl (f .1 .0) refl (λ k. inside-none _ Inner (λ i n. refl)))
 
-event-inside : (e : EventTree) (k : ℕ) (s : Scan) → EventOk k e → edgeAt (s .phase) ≡ true → s .slot ≡ k → 0 < s .left → s .place + length (eventOf e) < 4194303 → Widths (eventOf e)
-    → Inside s (eventOf e) (s .left - 1) innerAt
+event-inside : (e : EventTree) (k : ℕ) (s : Scan) → EventOk k e → Edge (s .phase) → s .slot ≡ k → 0 < s .left → s .place + length (eventOf e) < 4194303 → Widths (eventOf e)
+    → Inside s (eventOf e) (s .left - 1) Inner
 unfolding after
 event-inside e k s v g d o l f =
     let w = widths-split (clockOf (e .clock)) (piecesOf (e .pieces)) (f .1) in
-    step s _ _ (s .left - 1) innerAt (omega arith) (edge-form (s .phase) g .0) (ap not (eq-eqb _ _ (v .slot ∙ sym d))) refl (ne-eqb (s .left) 0 (λ q. omega arith)) (f .0) refl
+    step s _ _ (s .left - 1) Inner (omega arith) (g .0) (ap not (eq-eqb _ _ (v .slot ∙ sym d))) refl (ne-eqb (s .left) 0 (λ q. omega arith)) (f .0) refl
     (λ j. inside-fine _ (clockOf (e .clock)) (piecesOf (e .pieces)) (s .left - 1) (omega arith)
     (clock-inside (e .clock) _ (v .clock) refl (omega (arith, length-append (clockOf (e .clock)) (piecesOf (e .pieces)))) (w .0)) (pieces-fine (e .pieces) (v .pieces) (w .1)))
 
-events-inside : (es : List EventTree) (k : ℕ) (s : Scan) → Each (EventOk k) es → edgeAt (s .phase) ≡ true → s .slot ≡ k → s .left ≡ length es → s .place + length (eventsOf es) < 4194303
-    → Widths (eventsOf es) → Inside s (eventsOf es) 0 edgeAt
-events-inside [] k s v g d o l f = subst (λ (n : ℕ). Inside s [] n edgeAt) o (inside-none s edgeAt g)
+events-inside : (es : List EventTree) (k : ℕ) (s : Scan) → Each (EventOk k) es → Edge (s .phase) → s .slot ≡ k → s .left ≡ length es → s .place + length (eventsOf es) < 4194303
+    → Widths (eventsOf es) → Inside s (eventsOf es) 0 Edge
+events-inside [] k s v g d o l f = subst (λ (n : ℕ). Inside s [] n Edge) o (inside-none s Edge g)
 events-inside (e ∷ es) k s v g d o l f =
     let w = widths-split (eventOf e) (eventsOf es) f in
     let n : length (eventsOf (e ∷ es)) ≡ length (eventOf e) + length (eventsOf es) = length-append (eventOf e) (eventsOf es) in
-    inside-append s (eventOf e) (eventsOf es) (s .left - 1) 0 innerAt edgeAt (event-inside e k s (v .0) g d (omega (arith, o)) (omega (arith, n)) (w .0))
+    inside-append s (eventOf e) (eventsOf es) (s .left - 1) 0 Inner Edge (event-inside e k s (v .0) g d (omega (arith, o)) (omega (arith, n)) (w .0))
     (λ t p q r h. events-inside es k t (v .1) (inner-edge (t .phase) h) (q ∙ d) (omega (arith, r, o)) (omega (arith, n, p)) (w .1))
 
 -- ---- a block
 
-setup-inside : (u : Setup) (s : Scan) → s .phase ≡ P.Head → s .place + length (setupOf u) < 4194303 → Widths (setupOf u) → Inside s (setupOf u) (s .left) edgeAt
-unfolding after edgeAt
-setup-inside no-setup s e l f = inside-none s edgeAt (ap edgeAt e)
-setup-inside (setup r) s e l f = step s _ [] (s .left) edgeAt (omega arith) (ap moreIn e) refl refl refl (f .0) refl (λ k. inside-none _ edgeAt refl)
+setup-inside : (u : Setup) (s : Scan) → s .phase ≡ P.Head → s .place + length (setupOf u) < 4194303 → Widths (setupOf u) → Inside s (setupOf u) (s .left) Edge
+unfolding after
+setup-inside no-setup s e l f = inside-none s Edge (rw e (refl, refl))
+setup-inside (setup r) s e l f = step s _ [] (s .left) Edge (omega arith) (ap moreIn e) refl refl refl (f .0) refl (λ k. inside-none _ Edge (refl, refl))
 
 fillers-follow : (fs : List Filler) (n k : ℕ) (s : Scan) → Each (λ f. f .slot ≡ k) fs → s .phase ≡ P.Tail n → s .slot ≡ k → length fs ≤ n → Widths (map (λ f. I.Filler f) fs)
     → Follow s (map (λ f. I.Filler f) fs)
@@ -182,8 +195,8 @@ block-follows b v f =
     let n : length xs ≡ length (setupOf (b .setup)) + length (eventsOf (b .events)) = length-append (setupOf (b .setup)) (eventsOf (b .events)) in
     let m : b .trailer .words ≤ 4194303 = words-bound (b .trailer) (w .1 .0) in
     let s : Scan = after startOf (I.Block (b .header)) in
-    let a : Inside s xs 0 edgeAt =
-    inside-append s (setupOf (b .setup)) (eventsOf (b .events)) (b .header .events) 0 edgeAt edgeAt
+    let a : Inside s xs 0 Edge =
+    inside-append s (setupOf (b .setup)) (eventsOf (b .events)) (b .header .events) 0 Edge Edge
     (setup-inside (b .setup) s refl (omega (arith, v .count, n, m)) (u .0))
     (λ t p q r h. events-inside (b .events) (b .header .slot) t (v .events) h q (r ∙ sym (v .stated)) (omega (arith, p, v .count, n, m)) (u .1)) in
     let k : b .trailer .words ≡ a .to .place + 1 = omega (arith, v .count, a .place) in
@@ -192,13 +205,13 @@ block-follows b v f =
     let end : Stands (a .to) (I.Trailer (b .trailer)) =
     record {
       limit = not-limit (a .to) (omega arith);
-      type = edge-form (a .to .phase) (a .phase) .1;
+      type = a .phase .1;
       slot = ap not (eq-eqb _ _ (v .slot ∙ sym (a .slot)));
       fields = refl;
       count = rw (eq-eqb (a .to .left) 0 (a .rest), eq-eqb (b .trailer .words) (a .to .place + 1) k);
       widths = w .1 .0;
     } in
-    (head, follow-behind xs _ s (a .to) (a .passes) (end, fillers-follow (b .fillers) 3 (b .header .slot) _ (v .fillers) refl (a .slot) (v .few) (w .1 .1)))
+    (head, a .passes _ (end, fillers-follow (b .fillers) 3 (b .header .slot) _ (v .fillers) refl (a .slot) (v .few) (w .1 .1)))
 
 -- the records of a well-formed tree stand as the layout asks
 pub tree-is-block : (t : Tree) → WellFormed t → IsBlock (recordsOf t)
