@@ -211,7 +211,7 @@ block-follows b v f =
       count = rw (eq-eqb (a .to .left) 0 (a .rest), eq-eqb (b .trailer .words) (a .to .place + 1) k);
       widths = w .1 .0;
     } in
-    (head, a .passes _ (end, fillers-follow (b .fillers) 3 (b .header .slot) _ (v .fillers) refl (a .slot) (v .few) (w .1 .1)))
+    (head, a .passes _ (end, fillers-follow (b .fillers) 3 (b .header .slot) _ (v .fillers) refl (a .slot) (omega (arith, v .few)) (w .1 .1)))
 
 -- the records of a well-formed tree stand as the layout asks
 pub tree-is-block : (t : Tree) → WellFormed t → IsBlock (recordsOf t)
