@@ -7,17 +7,15 @@ use mathlib.Core.List.{List, [], _∷_}
 use lib.Dec.{eqb}
 use Rattle.ground.specs.Splice.{Written}
 use Rattle.ground.specs.ResultLaws.{one-result, one-writing}
-use Rattle.fields.specs.Word.{fieldAt, putAt, pack, fit}
+use Rattle.fields.specs.Word.{Field, fieldAt, putAt, pack, fit}
 use Rattle.fields.specs.Tag.{isDefining, isContinuation}
 use Rattle.fields.specs.Bytes.{wordOfBytes, bytesOf}
 use Rattle.frame.specs.declared.block_header.BlockHeader.{BlockHeader}
 use Rattle.frame.specs.declared.empty.ModuleEmpty.{ModuleEmpty}
 use Rattle.frame.specs.declared.event_header.EventHeader.{EventHeader}
-use Rattle.frame.specs.declared.filler.Filler.{Filler}
 use Rattle.frame.specs.declared.parameters.Parameters.{Parameters}
 use Rattle.frame.specs.declared.trailer.BlockTrailer.{BlockTrailer}
 use Rattle.frame.specs.declared.trigger_time.TriggerTime.{TriggerTime}
-use Rattle.frame.specs.declared.trigger_time_high.TriggerTimeHigh.{TriggerTimeHigh}
 use Rattle.frame.specs.Words.{blockHeader, blockHeaderOf, blockHeaderFixed, blockHeaderWithin, parameters, parametersOf, parametersFixed, trailer, trailerOf, eventHeader, eventHeaderOf, triggerTime, triggerTimeOf, triggerTimeHigh, triggerTimeHighOf, triggerTimeHighFixed, empty, emptyOf, filler, fillerOf}
 use Rattle.raw.specs.declared.pair.SamplePair.{SamplePair}
 use Rattle.raw.specs.declared.pulse_raw.PulseRaw.{PulseRaw}
@@ -114,211 +112,82 @@ of-bytes-unique a b c d = by-equation _
 pub to-bytes-unique : (word : ℕ) → Unique (λ r. r ≡ bytesOf word)
 to-bytes-unique word = by-equation _
 
--- frame::block_header
+-- the functions that every record type has: a row of fields, the record of a word, and whether a word is of the type
+pub record TypeUnique {R : Type 0} (row : R → List Field) (of : ℕ → R) (known : ℕ → Bool) : Type 0 where
+  pub fits : (self : R) → Unique (λ r. r ≡ fit (row self))
+  pub build : (self : R) → Unique (λ r. r ≡ pack (row self))
+  pub take-apart : (word : ℕ) → Unique (λ r. r ≡ of word)
+  pub is : (word : ℕ) → Unique (λ r. r ≡ known word)
+
+of-type : {R : Type 0} (row : R → List Field) (of : ℕ → R) (known : ℕ → Bool) → TypeUnique row of known
+of-type row of known = record { fits = λ self. by-equation _; build = λ self. by-equation _; take-apart = λ word. by-equation _; is = λ word. by-equation _ }
+
+pub block-header-unique : TypeUnique blockHeader blockHeaderOf (isDefining 0)
+block-header-unique = of-type _ _ _
+
+pub empty-unique : TypeUnique empty emptyOf (isDefining 14)
+empty-unique = of-type _ _ _
+
+pub event-header-unique : TypeUnique eventHeader eventHeaderOf (isDefining 2)
+event-header-unique = of-type _ _ _
+
+pub filler-unique : TypeUnique filler fillerOf (isDefining 15)
+filler-unique = of-type _ _ _
+
+pub parameters-unique : TypeUnique parameters parametersOf isContinuation
+parameters-unique = of-type _ _ _
+
+pub trailer-unique : TypeUnique trailer trailerOf (isDefining 1)
+trailer-unique = of-type _ _ _
+
+pub trigger-time-unique : TypeUnique triggerTime triggerTimeOf (isDefining 3)
+trigger-time-unique = of-type _ _ _
+
+pub trigger-time-high-unique : TypeUnique triggerTimeHigh triggerTimeHighOf isContinuation
+trigger-time-high-unique = of-type _ _ _
+
+pub pair-unique : TypeUnique pair pairOf isContinuation
+pair-unique = of-type _ _ _
+
+pub pulse-raw-unique : TypeUnique pulseRaw pulseRawOf (isDefining 6)
+pulse-raw-unique = of-type _ _ _
+
+pub window-unique : TypeUnique window windowOf (isDefining 4)
+window-unique = of-type _ _ _
+
+pub integral-unique : TypeUnique integral integralOf (isDefining 7)
+integral-unique = of-type _ _ _
+
+pub pedestal-unique : TypeUnique pedestal pedestalOf (isDefining 10)
+pedestal-unique = of-type _ _ _
+
+pub time-unique : TypeUnique time timeOf (isDefining 8)
+time-unique = of-type _ _ _
+
+-- what some of them have beside these
 pub block-header-within-unique : (self : BlockHeader) → Unique (λ r. r ≡ blockHeaderWithin self)
 block-header-within-unique self = by-equation _
-
-pub block-header-fits-unique : (self : BlockHeader) → Unique (λ r. r ≡ fit (blockHeader self))
-block-header-fits-unique self = by-equation _
-
-pub block-header-build-unique : (self : BlockHeader) → Unique (λ r. r ≡ pack (blockHeader self))
-block-header-build-unique self = by-equation _
-
-pub block-header-take-apart-unique : (word : ℕ) → Unique (λ r. r ≡ blockHeaderOf word)
-block-header-take-apart-unique word = by-equation _
-
-pub block-header-is-unique : (word : ℕ) → Unique (λ r. r ≡ isDefining 0 word)
-block-header-is-unique word = by-equation _
 
 pub block-header-fixed-unique : (word : ℕ) → Unique (λ r. r ≡ blockHeaderFixed word)
 block-header-fixed-unique word = by-equation _
 
--- frame::empty
-pub empty-fits-unique : (self : ModuleEmpty) → Unique (λ r. r ≡ fit (empty self))
-empty-fits-unique self = by-equation _
-
-pub empty-build-unique : (self : ModuleEmpty) → Unique (λ r. r ≡ pack (empty self))
-empty-build-unique self = by-equation _
-
-pub empty-take-apart-unique : (word : ℕ) → Unique (λ r. r ≡ emptyOf word)
-empty-take-apart-unique word = by-equation _
-
-pub empty-is-unique : (word : ℕ) → Unique (λ r. r ≡ isDefining 14 word)
-empty-is-unique word = by-equation _
-
--- frame::event_header
-pub event-header-fits-unique : (self : EventHeader) → Unique (λ r. r ≡ fit (eventHeader self))
-event-header-fits-unique self = by-equation _
-
-pub event-header-build-unique : (self : EventHeader) → Unique (λ r. r ≡ pack (eventHeader self))
-event-header-build-unique self = by-equation _
-
-pub event-header-take-apart-unique : (word : ℕ) → Unique (λ r. r ≡ eventHeaderOf word)
-event-header-take-apart-unique word = by-equation _
-
-pub event-header-is-unique : (word : ℕ) → Unique (λ r. r ≡ isDefining 2 word)
-event-header-is-unique word = by-equation _
-
--- frame::filler
-pub filler-fits-unique : (self : Filler) → Unique (λ r. r ≡ fit (filler self))
-filler-fits-unique self = by-equation _
-
-pub filler-build-unique : (self : Filler) → Unique (λ r. r ≡ pack (filler self))
-filler-build-unique self = by-equation _
-
-pub filler-take-apart-unique : (word : ℕ) → Unique (λ r. r ≡ fillerOf word)
-filler-take-apart-unique word = by-equation _
-
-pub filler-is-unique : (word : ℕ) → Unique (λ r. r ≡ isDefining 15 word)
-filler-is-unique word = by-equation _
-
--- frame::parameters
-pub parameters-fits-unique : (self : Parameters) → Unique (λ r. r ≡ fit (parameters self))
-parameters-fits-unique self = by-equation _
-
-pub parameters-build-unique : (self : Parameters) → Unique (λ r. r ≡ pack (parameters self))
-parameters-build-unique self = by-equation _
-
-pub parameters-take-apart-unique : (word : ℕ) → Unique (λ r. r ≡ parametersOf word)
-parameters-take-apart-unique word = by-equation _
-
-pub parameters-is-unique : (word : ℕ) → Unique (λ r. r ≡ isContinuation word)
-parameters-is-unique word = by-equation _
-
 pub parameters-fixed-unique : (word : ℕ) → Unique (λ r. r ≡ parametersFixed word)
 parameters-fixed-unique word = by-equation _
-
--- frame::trailer
-pub trailer-fits-unique : (self : BlockTrailer) → Unique (λ r. r ≡ fit (trailer self))
-trailer-fits-unique self = by-equation _
-
-pub trailer-build-unique : (self : BlockTrailer) → Unique (λ r. r ≡ pack (trailer self))
-trailer-build-unique self = by-equation _
-
-pub trailer-take-apart-unique : (word : ℕ) → Unique (λ r. r ≡ trailerOf word)
-trailer-take-apart-unique word = by-equation _
-
-pub trailer-is-unique : (word : ℕ) → Unique (λ r. r ≡ isDefining 1 word)
-trailer-is-unique word = by-equation _
-
--- frame::trigger_time
-pub trigger-time-fits-unique : (self : TriggerTime) → Unique (λ r. r ≡ fit (triggerTime self))
-trigger-time-fits-unique self = by-equation _
-
-pub trigger-time-build-unique : (self : TriggerTime) → Unique (λ r. r ≡ pack (triggerTime self))
-trigger-time-build-unique self = by-equation _
-
-pub trigger-time-take-apart-unique : (word : ℕ) → Unique (λ r. r ≡ triggerTimeOf word)
-trigger-time-take-apart-unique word = by-equation _
-
-pub trigger-time-is-unique : (word : ℕ) → Unique (λ r. r ≡ isDefining 3 word)
-trigger-time-is-unique word = by-equation _
-
--- frame::trigger_time_high
-pub trigger-time-high-fits-unique : (self : TriggerTimeHigh) → Unique (λ r. r ≡ fit (triggerTimeHigh self))
-trigger-time-high-fits-unique self = by-equation _
-
-pub trigger-time-high-build-unique : (self : TriggerTimeHigh) → Unique (λ r. r ≡ pack (triggerTimeHigh self))
-trigger-time-high-build-unique self = by-equation _
-
-pub trigger-time-high-take-apart-unique : (word : ℕ) → Unique (λ r. r ≡ triggerTimeHighOf word)
-trigger-time-high-take-apart-unique word = by-equation _
-
-pub trigger-time-high-is-unique : (word : ℕ) → Unique (λ r. r ≡ isContinuation word)
-trigger-time-high-is-unique word = by-equation _
 
 pub trigger-time-high-fixed-unique : (word : ℕ) → Unique (λ r. r ≡ triggerTimeHighFixed word)
 trigger-time-high-fixed-unique word = by-equation _
 
--- raw::pair
-pub pair-fits-unique : (self : SamplePair) → Unique (λ r. r ≡ fit (pair self))
-pair-fits-unique self = by-equation _
-
-pub pair-build-unique : (self : SamplePair) → Unique (λ r. r ≡ pack (pair self))
-pair-build-unique self = by-equation _
-
-pub pair-take-apart-unique : (word : ℕ) → Unique (λ r. r ≡ pairOf word)
-pair-take-apart-unique word = by-equation _
-
-pub pair-is-unique : (word : ℕ) → Unique (λ r. r ≡ isContinuation word)
-pair-is-unique word = by-equation _
-
 pub pair-fixed-unique : (word : ℕ) → Unique (λ r. r ≡ pairFixed word)
 pair-fixed-unique word = by-equation _
-
--- raw::pulse_raw
-pub pulse-raw-fits-unique : (self : PulseRaw) → Unique (λ r. r ≡ fit (pulseRaw self))
-pulse-raw-fits-unique self = by-equation _
-
-pub pulse-raw-build-unique : (self : PulseRaw) → Unique (λ r. r ≡ pack (pulseRaw self))
-pulse-raw-build-unique self = by-equation _
-
-pub pulse-raw-take-apart-unique : (word : ℕ) → Unique (λ r. r ≡ pulseRawOf word)
-pulse-raw-take-apart-unique word = by-equation _
-
-pub pulse-raw-is-unique : (word : ℕ) → Unique (λ r. r ≡ isDefining 6 word)
-pulse-raw-is-unique word = by-equation _
 
 pub pulse-raw-fixed-unique : (word : ℕ) → Unique (λ r. r ≡ pulseRawFixed word)
 pulse-raw-fixed-unique word = by-equation _
 
--- raw::window
 pub window-within-unique : (self : WindowRaw) → Unique (λ r. r ≡ windowWithin self)
 window-within-unique self = by-equation _
 
-pub window-fits-unique : (self : WindowRaw) → Unique (λ r. r ≡ fit (window self))
-window-fits-unique self = by-equation _
-
-pub window-build-unique : (self : WindowRaw) → Unique (λ r. r ≡ pack (window self))
-window-build-unique self = by-equation _
-
-pub window-take-apart-unique : (word : ℕ) → Unique (λ r. r ≡ windowOf word)
-window-take-apart-unique word = by-equation _
-
-pub window-is-unique : (word : ℕ) → Unique (λ r. r ≡ isDefining 4 word)
-window-is-unique word = by-equation _
-
 pub window-fixed-unique : (word : ℕ) → Unique (λ r. r ≡ windowFixed word)
 window-fixed-unique word = by-equation _
-
--- measures::integral
-pub integral-fits-unique : (self : PulseIntegral) → Unique (λ r. r ≡ fit (integral self))
-integral-fits-unique self = by-equation _
-
-pub integral-build-unique : (self : PulseIntegral) → Unique (λ r. r ≡ pack (integral self))
-integral-build-unique self = by-equation _
-
-pub integral-take-apart-unique : (word : ℕ) → Unique (λ r. r ≡ integralOf word)
-integral-take-apart-unique word = by-equation _
-
-pub integral-is-unique : (word : ℕ) → Unique (λ r. r ≡ isDefining 7 word)
-integral-is-unique word = by-equation _
-
--- measures::pedestal
-pub pedestal-fits-unique : (self : PulsePedestal) → Unique (λ r. r ≡ fit (pedestal self))
-pedestal-fits-unique self = by-equation _
-
-pub pedestal-build-unique : (self : PulsePedestal) → Unique (λ r. r ≡ pack (pedestal self))
-pedestal-build-unique self = by-equation _
-
-pub pedestal-take-apart-unique : (word : ℕ) → Unique (λ r. r ≡ pedestalOf word)
-pedestal-take-apart-unique word = by-equation _
-
-pub pedestal-is-unique : (word : ℕ) → Unique (λ r. r ≡ isDefining 10 word)
-pedestal-is-unique word = by-equation _
-
--- measures::time
-pub time-fits-unique : (self : PulseTime) → Unique (λ r. r ≡ fit (time self))
-time-fits-unique self = by-equation _
-
-pub time-build-unique : (self : PulseTime) → Unique (λ r. r ≡ pack (time self))
-time-build-unique self = by-equation _
-
-pub time-take-apart-unique : (word : ℕ) → Unique (λ r. r ≡ timeOf word)
-time-take-apart-unique word = by-equation _
-
-pub time-is-unique : (word : ℕ) → Unique (λ r. r ≡ isDefining 8 word)
-time-is-unique word = by-equation _
 
 pub time-fixed-unique : (word : ℕ) → Unique (λ r. r ≡ timeFixed word)
 time-fixed-unique word = by-equation _
