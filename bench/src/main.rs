@@ -20,19 +20,23 @@ fn seconds(go: &mut dyn FnMut()) -> f64 {
     start.elapsed().as_secs_f64()
 }
 
-/// The medians of both in rounds that take turns, and the spread of the rounds' ratios.
-fn row(name: &str, unit: &str, amount: f64, ours: &mut dyn FnMut(), theirs: &mut dyn FnMut()) {
+/// The medians of both in rounds that take turns, and the spread of the rounds' ratios. A go does so much of each unit.
+fn row(name: &str, units: &[(&str, f64)], ours: &mut dyn FnMut(), theirs: &mut dyn FnMut()) {
     let mut rounds: Vec<(f64, f64)> =
         (0..ROUNDS).map(|_| (seconds(ours), seconds(theirs))).collect();
     let mut ratios: Vec<f64> = rounds.iter().map(|(a, b)| b / a).collect();
     ratios.sort_by(f64::total_cmp);
     rounds.sort_by(|x, y| x.0.total_cmp(&y.0));
-    let speed = amount / rounds[ROUNDS / 2].0;
+    let median = rounds[ROUNDS / 2].0;
+    let speeds: Vec<String> =
+        units.iter().map(|(unit, amount)| format!("{:.1} {unit}", amount / median)).collect();
     let quarters = (ratios[ROUNDS / 4], ratios[ROUNDS * 3 / 4]);
     let ratio = ratios[ROUNDS / 2];
     println!(
-        "| {name} | {speed:.1} {unit} | {ratio:.2} | {:.2} to {:.2} |",
-        quarters.0, quarters.1
+        "| {name} | {} | {ratio:.2} | {:.2} to {:.2} |",
+        speeds.join(", "),
+        quarters.0,
+        quarters.1
     );
 }
 
@@ -105,73 +109,88 @@ fn block(items: &[u32], most: usize) -> Vec<u8> {
     words.iter().flat_map(|word| word.to_be_bytes()).collect()
 }
 
-fn channel_words(mode: u64, nw: usize) -> Vec<u32> {
+/// The words that a close in this mode writes.
+fn event_words(mode: u64, nw: usize) -> Vec<u32> {
     let (mut state, store, mut buffer) = opened(mode, nw);
+    let before = state[7] as usize;
     Second.close(&mut state, &store, &mut buffer);
-    // behind the block's two words stand the event's header and time words
-    buffer[5..state[7] as usize].to_vec()
+    buffer[before..state[7] as usize].to_vec()
+}
+
+/// The same behind the event's header and time words.
+fn channel_words(mode: u64, nw: usize) -> Vec<u32> {
+    event_words(mode, nw).split_off(1 + CLOCK.len())
+}
+
+fn finder_row(nw: usize, busy: bool) {
+    let (settings, window) = (settings(7, nw), window(nw, busy));
+    let times = 4_000_000 / nw;
+    row(
+        &format!("finder, NW {nw}, {}", if busy { "busy" } else { "quiet" }),
+        &[("Msamples/s", (times * nw) as f64 / 1e6)],
+        &mut || finds(&Library, &settings, &window, times),
+        &mut || finds(&Second, &settings, &window, times),
+    );
+}
+
+fn close_row(mode: u64) {
+    const TIMES: usize = 2_000;
+    let (state, store, mut words) = opened(mode, 100);
+    let mut other = words.clone();
+    let written = event_words(mode, 100).len();
+    row(
+        &format!("close, mode {mode}, 16 channels of 100"),
+        &[("kevents/s", TIMES as f64 / 1e3), ("Mwords/s", (TIMES * written) as f64 / 1e6)],
+        &mut || closes(&Library, &state, &store, &mut words, TIMES),
+        &mut || closes(&Second, &state, &store, &mut other, TIMES),
+    );
+}
+
+/// The check of a block of 16 MB, and as the limit a copy of its bytes.
+fn check_rows(name: &str, items: &[u32]) {
+    let bytes = block(items, 4_000_000);
+    assert_eq!(Library.check(&bytes), bytes.len() as u64 / 4, "{name}");
+    let megabytes = bytes.len() as f64 / 1e6;
+    row(
+        &format!("check, {name}"),
+        &[("MB/s", megabytes)],
+        &mut || checks(&Library, &bytes),
+        &mut || checks(&Second, &bytes),
+    );
+    let mut copy = bytes.clone();
+    let mut rounds: Vec<f64> = (0..ROUNDS)
+        .map(|_| seconds(&mut || black_box(&mut copy).copy_from_slice(black_box(&bytes))))
+        .collect();
+    rounds.sort_by(f64::total_cmp);
+    println!("| memcpy of the same | {:.1} MB/s | | |", megabytes / rounds[ROUNDS / 2]);
+}
+
+fn lister_row(items: &[u32]) {
+    let program =
+        |of: &str| env::args().nth(1).map(|folder| format!("{folder}/{of}")).unwrap_or_default();
+    let ours = [program("bin/lister")];
+    let theirs = [program("second/release/second"), "list".to_string()];
+    let bytes = block(items, 16_384);
+    row(
+        "lister, a program on 64 KB",
+        &[("MB/s", 20.0 * bytes.len() as f64 / 1e6)],
+        &mut || lists(&ours, &bytes),
+        &mut || lists(&theirs, &bytes),
+    );
 }
 
 fn main() {
     println!("| what | library | ratio | quarters of the ratio |\n|---|---|---|---|");
     for nw in [16, 100, 500] {
-        for busy in [false, true] {
-            let (settings, window) = (settings(7, nw), window(nw, busy));
-            let times = 4_000_000 / nw;
-            let name = format!("finder, NW {nw}, {}", if busy { "busy" } else { "quiet" });
-            row(
-                &name,
-                "Msamples/s",
-                (times * nw) as f64 / 1e6,
-                &mut || finds(&Library, &settings, &window, times),
-                &mut || finds(&Second, &settings, &window, times),
-            );
-        }
+        finder_row(nw, false);
+        finder_row(nw, true);
     }
     for mode in [1, 2, 3, 4, 7, 8] {
-        let (state, store, mut words) = opened(mode, 100);
-        let mut other = words.clone();
-        row(
-            &format!("close, mode {mode}, 16 channels of 100"),
-            "kevents/s",
-            2.0,
-            &mut || closes(&Library, &state, &store, &mut words, 2_000),
-            &mut || closes(&Second, &state, &store, &mut other, 2_000),
-        );
+        close_row(mode);
     }
     let mixed = [channel_words(8, 101), channel_words(7, 100), channel_words(2, 60)].concat();
-    for (name, items) in [
-        ("integrals", vec![0xB980_02BC]),
-        ("windows", channel_words(1, 500)),
-        ("mixed", mixed.clone()),
-    ] {
-        let bytes = block(&items, 4_000_000);
-        assert_eq!(Library.check(&bytes), bytes.len() as u64 / 4, "{name}");
-        let megabytes = bytes.len() as f64 / 1e6;
-        row(
-            &format!("check, {name}"),
-            "MB/s",
-            megabytes,
-            &mut || checks(&Library, &bytes),
-            &mut || checks(&Second, &bytes),
-        );
-        let mut copy = bytes.clone();
-        let mut rounds: Vec<f64> = (0..ROUNDS)
-            .map(|_| seconds(&mut || black_box(&mut copy).copy_from_slice(black_box(&bytes))))
-            .collect();
-        rounds.sort_by(f64::total_cmp);
-        println!("| memcpy of the same | {:.1} MB/s | | |", megabytes / rounds[ROUNDS / 2]);
-    }
-    let program =
-        |of: &str| env::args().nth(1).map(|folder| format!("{folder}/{of}")).unwrap_or_default();
-    let ours = [program("bin/lister")];
-    let theirs = [program("second/release/second"), "list".to_string()];
-    let bytes = block(&mixed, 16_384);
-    row(
-        "lister, a program on 64 KB",
-        "MB/s",
-        20.0 * bytes.len() as f64 / 1e6,
-        &mut || lists(&ours, &bytes),
-        &mut || lists(&theirs, &bytes),
-    );
+    check_rows("integrals", &[0xB980_02BC]);
+    check_rows("windows", &channel_words(1, 500));
+    check_rows("mixed", &mixed);
+    lister_row(&mixed);
 }
