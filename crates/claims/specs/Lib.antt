@@ -20,4 +20,5 @@ pub mod RunLaws
 pub mod Reads
 pub mod ReadsLaws
 pub mod BenchRuns
+pub mod CheckLaws
 pub mod Unique
