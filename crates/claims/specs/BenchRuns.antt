@@ -1,4 +1,4 @@
--- "Run A and b to i are proved together, as rows of a single table under one theorem." The table's runs and pulses stand with the finder;
+-- "Run A and b to i are proved together, as rows of a single table under one theorem." The table's runs and pulses are in `Runs`;
 -- here each has the records that its channel writes, and run A its block, by the calls' contracts. Assumes nothing.
 use Prim.Native.Nat.{ℕ}
 use mathlib.Core.Path.{_≡_, refl, subst}
@@ -15,14 +15,12 @@ use Rattle.settings.specs.Sample.{samplesOk, amp}
 use Rattle.finder.specs.declared.Pulse.{Pulse}
 use Rattle.finder.specs.Find.{ampAt, over, firstOver, starts, nextTc, tcFrom, integral, overIn, early, vmin, falls, firstFall, vmid, atMost, n1, fineOf, edgeTime, afterFall, timeAt, pulseAt, pulsesFrom}
 use Rattle.finder.specs.Call.{findTable, findNumber, channelPulses, foundPulses}
-use Rattle.finder.specs.Runs.{Run, rows}
 use Rattle.frame.specs.Words.{blockHeader, parameters, eventHeader, triggerTime, triggerTimeHigh, trailer, filler, blockHeaderOf, blockHeaderFixed, blockHeaderWithin, parametersOf, parametersFixed, trailerOf, eventHeaderOf, triggerTimeOf, triggerTimeHighOf, triggerTimeHighFixed, fillerOf}
 use Rattle.measures.specs.Words as M
 use Rattle.items.specs.Items.{wordOf}
 use Rattle.items.specs.declared.Item.{Item}
 use Rattle.items.specs.declared.Item.the-variants as I
 use Rattle.reader.specs.Reader.{Whole, startOf, formAt, atLimit, refusalOf, onward, after, stepAt, judgeAt, endOf, readFrom}
-use Rattle.reader.specs.RunLaws.{runA}
 use Rattle.writer.specs.declared.State.{State}
 use Rattle.writer.specs.declared.Answer.{Answer}
 use Rattle.writer.specs.declared.Finished.{Finished}
@@ -30,11 +28,12 @@ use Rattle.writer.specs.State.{blockOk, eventOk, mostEvent, wordsOk, noMarks, p
 use Rattle.writer.specs.Calls.{setUpNumber, SetUpSays, blockItems, openBlockTable, openBlockNumber, OpenBlockSays, openEventTable, openEventNumber, OpenEventSays, postTable, postNumber, PostSays, closeTable, closeNumber, CloseSays, fillersTo, endItems, finishTable, finishNumber, FinishSays, closingItems}
 use Rattle.event.specs.Event.{row, rowsOk, timeItems, channelsItems, eventItems}
 use Rattle.channel.specs.Channel.{commonOf, channelItems, partsOf, pulsesItems, pulseItems, integralItem, timeItem, pedestalItem}
+use Rattle.claims.specs.Runs.{BenchRun, rows, runA}
 
 -- ---- every run with its channel's records
 
 -- what the finder answers, and what the run's channel writes: mode 7, channel 3
-pub answeredAll : Run → ℕ × (List Pulse × List Item)
+pub answeredAll : BenchRun → ℕ × (List Pulse × List Item)
 answeredAll r = (
   findNumber (r .settings) (r .channel) (r .window),
   (
@@ -79,7 +78,7 @@ written =
     ∷ []
 
 -- the table's rows, each beside its records
-abbrev pub beside : List Run → List (List Item) → List (ℕ × (List Pulse × List Item))
+abbrev pub beside : List BenchRun → List (List Item) → List (ℕ × (List Pulse × List Item))
 beside [] items = []
 beside (r ∷ rs) [] = []
 beside (r ∷ rs) (x ∷ xs) = (0, (r .pulses, x)) ∷ beside rs xs

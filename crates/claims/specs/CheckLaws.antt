@@ -11,7 +11,7 @@ use Rattle.fields.specs.Bytes.{bytesOf, wordsOfBytes}
 use Rattle.fields.specs.BytesLaws.{bytes-back}
 use Rattle.items.specs.declared.Item.{Item}
 use Rattle.reader.specs.Reader.{startOf, checkFrom}
-use Rattle.reader.specs.RunLaws.{runA, check-reads}
+use Rattle.reader.specs.RunLaws.{check-reads}
 use Rattle.host.specs.Check.{numberOfOut, checkNumber}
 use Rattle.writer.specs.declared.State.{State}
 use Rattle.writer.specs.declared.Finished.{Finished}
@@ -19,6 +19,7 @@ use Rattle.writer.specs.Calls.{FinishSays}
 use Rattle.claims.specs.NothingLost.{AllWords}
 use Rattle.claims.specs.Run.{Run}
 use Rattle.claims.specs.RunLaws.{run-checks}
+use Rattle.claims.specs.Runs.{runA}
 use Rattle.claims.specs.BenchRuns.{run-a-read}
 
 -- "It passes a block as bytes, big-endian"

@@ -4,6 +4,7 @@ pub mod Order
 pub mod OrderLaws
 pub mod Own
 pub mod OwnLaws
+pub mod AloneLaws
 pub mod Grammar
 pub mod Layout
 pub mod NothingLost
@@ -19,6 +20,7 @@ pub mod WrittenLaws
 pub mod RunLaws
 pub mod Reads
 pub mod ReadsLaws
+pub mod Runs
 pub mod BenchRuns
 pub mod CheckLaws
 pub mod Unique

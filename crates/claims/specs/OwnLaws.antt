@@ -15,7 +15,7 @@ use Rattle.ground.specs.TestsLaws.{and-left, and-right}
 use Rattle.settings.specs.declared.Settings.{Settings}
 use Rattle.items.specs.declared.Item.{Item}
 use Rattle.items.specs.declared.Item.the-variants as I
-use Rattle.channel.specs.Channel.{Common, commonOf, channelItems}
+use Rattle.channel.specs.Channel.{commonOf, channelItems}
 use Rattle.event.specs.Event.{row, timeItems, channelsItems, eventItems}
 use Rattle.event.specs.EventLaws.{row-end, channelAt, channels-step, channels-end}
 use Rattle.writer.specs.State.{noMarks, withMark}
@@ -186,17 +186,3 @@ unfolding eventItems
 own-words b l o a =
     let s = same-posts b l in
     rw (own-channels b l o a 0 16 refl, s .settings, s .event, s .time)
-
--- the same of two runs that may differ in all else: other windows, other thresholds, the store before, the order and number of posts
-pub own-alone : (b b′ : Bench) (l l′ : List Post) (c : ℕ) → commonOf (b .state .settings) ≡ commonOf (b′ .state .settings)
-    → getD (b .state .settings .thresholds) c 0 ≡ getD (b′ .state .settings .thresholds) c 0 → windowFor b l c ≡ windowFor b′ l′ c
-    → itemsFor (b .state .settings) c (windowFor b l c) ≡ itemsFor (b′ .state .settings) c (windowFor b′ l′ c)
-own-alone b b′ l l′ c s t w = rw w (go (windowFor b′ l′ c))
-  where
-    go : (ws : List (List ℕ)) → itemsFor (b .state .settings) c ws ≡ itemsFor (b′ .state .settings) c ws
-    go [] = refl
-    go (x ∷ ws) = ap₂ (λ (common : Common) (threshold : ℕ). channelItems common threshold c x) s t
-
--- "no posted window, no words"
-pub no-window : (s : Settings) (b : Bench) (l : List Post) (c : ℕ) → windowFor b l c ≡ [] → itemsFor s c (windowFor b l c) ≡ []
-no-window s b l c e = rw e

@@ -37,7 +37,7 @@ use Rattle.claims.specs.PassLaws.{both}
 use Rattle.claims.specs.Grammar.{EventTree, no-setup, setup, BlockTree, block, eventOf, eventsOf, setupOf, bodyOf, Each, EventOk, BlockOk}
 use Rattle.claims.specs.GrammarLaws.{Widths, tree-is-block}
 use Rattle.claims.specs.ParseLaws.{Parsed}
-use Rattle.claims.specs.WrittenLaws.{Made, each-append, event-made}
+use Rattle.claims.specs.WrittenLaws.{TreeOf, each-append, event-made}
 use Rattle.claims.specs.Refused.{open-block-refused, close-refused, finish-refused}
 use Rattle.claims.specs.Run.{Run, opened, begun, posted, closed, not-closed, not-opened, not-finished}
 
@@ -87,14 +87,14 @@ end-fits c words ok l =
 
 -- the records of a block's head and of the events closed so far
 abbrev Begun : Settings → ℕ → ℕ → ℕ → List Item → Type 0
-Begun c number events n xs = Made (λ es. blockItems c number events ++ eventsOf es) (λ es. (length es ≡ n) × Each (EventOk (c .slot)) es) xs
+Begun c number events n xs = TreeOf (λ es. blockItems c number events ++ eventsOf es) (λ es. (length es ≡ n) × Each (EventOk (c .slot)) es) xs
 
 -- one event more
 events-more : (es : List EventTree) (e : EventTree) → eventsOf (es ++ (e ∷ [])) ≡ eventsOf es ++ eventOf e
 events-more [] e = append-nil (eventOf e)
 events-more (f ∷ es) e = ap (λ (l : List Item). eventOf f ++ l) (events-more es e) ∙ sym (append-assoc (eventOf f) (eventsOf es) (eventOf e))
 
-begun-more : (c : Settings) (number events n : ℕ) (xs ys : List Item) → Begun c number events n xs → Made eventOf (EventOk (c .slot)) ys → Begun c number events (n + 1) (xs ++ ys)
+begun-more : (c : Settings) (number events n : ℕ) (xs ys : List Item) → Begun c number events n xs → TreeOf eventOf (EventOk (c .slot)) ys → Begun c number events (n + 1) (xs ++ ys)
 begun-more c number events n xs ys a b =
     let h : List Item = blockItems c number events in
     record {

@@ -32,7 +32,7 @@ use Rattle.claims.specs.Grammar.{Piece, window, raw, integral, time, ped
 use Rattle.claims.specs.GrammarLaws.{Widths}
 
 -- the records of a tree that is as asked, every field within its bits
-pub record Made {A : Type 0} (of : A → List Item) (ok : A → Type 0) (xs : List Item) : Type 0 where
+pub record TreeOf {A : Type 0} (of : A → List Item) (ok : A → Type 0) (xs : List Item) : Type 0 where
   pub tree : A
   pub fine : ok tree
   pub are : of tree ≡ xs
@@ -45,7 +45,7 @@ each-append P (x ∷ xs) ys p q = (p .0, each-append P xs ys (p .1) q)
 -- ---- pieces, one after the other
 
 abbrev Pieces : List Item → Type 0
-Pieces xs = Made piecesOf (Each PieceOk) xs
+Pieces xs = TreeOf piecesOf (Each PieceOk) xs
 
 none : Pieces []
 none = record { tree = []; fine = tt; are = refl; widths = tt }
@@ -94,7 +94,7 @@ raw-first : (p : SamplePair) (n : ℕ) (ps : List SamplePair) → BothValid p �
 raw-first p n [] b k = full b
 raw-first p n (q ∷ ps) b k = (b, k .2 (omega (arith, k .1)))
 
-pairs : (w : List ℕ) → Under 8191 w → Made eachPair (PairsOk (length w)) (pairItems w)
+pairs : (w : List ℕ) → Under 8191 w → TreeOf eachPair (PairsOk (length w)) (pairItems w)
 unfolding fits R.pair
 pairs [] u = record { tree = []; fine = (tt, refl, λ l. absurd (omega arith)); are = refl; widths = tt }
 pairs (x ∷ []) u =
@@ -205,14 +205,14 @@ channels-made s store c (b ∷ posted) ok n m h =
         channel-made s (getD (s .thresholds) c 0) c (row (s .nw) c store) ok (omega arith) (under 8191 (row (s .nw) c store) e) (omega (arith, z, r .nw .0)) (omega (arith, z, r .nw .1))
     here false e = none
 
-clock-made : (times t : ℕ) → times ≤ 2 → t ≤ 2 ^ 48 - 1 → Made clockOf ClockOk (timeItems times t)
+clock-made : (times t : ℕ) → times ≤ 2 → t ≤ 2 ^ 48 - 1 → TreeOf clockOf ClockOk (timeItems times t)
 unfolding timeItems fits W.triggerTime W.triggerTimeHigh
 clock-made times t m h = go times m
   where
     low : fits (I.Clock (record { middle = t / 2 ^ 24 % 2 ^ 3; low = t % 2 ^ 24 })) ≡ true
     low = both (le-leb (t / 2 ^ 24 % 2 ^ 3) 7 (omega arith)) (le-leb (t % 2 ^ 24) 16777215 (omega arith))
 
-    go : (times : ℕ) → times ≤ 2 → Made clockOf ClockOk (timeItems times t)
+    go : (times : ℕ) → times ≤ 2 → TreeOf clockOf ClockOk (timeItems times t)
     go zero m = record { tree = no-clock; fine = tt; are = refl; widths = tt }
     go (suc zero) m = record { tree = clock27 _; fine = tt; are = refl; widths = (low, tt) }
     go (suc (suc zero)) m = record { tree = clock48 _ _; fine = refl; are = refl; widths = (low, (le-leb (t / 2 ^ 24) 16777215 (omega arith), tt)) }
@@ -220,7 +220,7 @@ clock-made times t m h = go times m
 
 -- what a close writes
 pub event-made : (c : Settings) (number t : ℕ) (posted : List Bool) (store : List ℕ) → settingsOk c ≡ true → number ≤ 4194303 → t ≤ 2 ^ 48 - 1 → length posted ≤ 16
-    → 16 * c .nw ≤ length store → rowsOk (c .nw) store 0 posted ≡ true → Made eventOf (EventOk (c .slot)) (eventItems c number t posted store)
+    → 16 * c .nw ≤ length store → rowsOk (c .nw) store 0 posted ≡ true → TreeOf eventOf (EventOk (c .slot)) (eventItems c number t posted store)
 unfolding eventItems fits W.eventHeader
 event-made c number t posted store ok n m k z q =
     let r : InRange c = settings-in-range c ok in

@@ -1,4 +1,4 @@
--- A run's laws: one word of it, what it answers without records, and the block of run A. Assumes nothing.
+-- A run's laws: one word of it, and what it answers without records. Assumes nothing.
 use Prim.Native.Nat.{ℕ, suc, _≤_, _<_}
 use mathlib.Core.Path.{_≡_, refl, ap, sym, _∙_}
 use mathlib.Core.Bool.{Bool, true, false, cond}
@@ -8,9 +8,6 @@ use lib.Dec.{eqb}
 use lib.ListN.{length, getD, drop}
 use lib.Seq.{drop-cons}
 use Rattle.ground.specs.Tests.{firstOf}
-use Rattle.fields.specs.Word.{fieldAt}
-use Rattle.frame.specs.Words.{blockHeaderOf, blockHeaderFixed, blockHeaderWithin, parametersFixed, trailerOf, eventHeaderOf, triggerTimeOf, triggerTimeHighOf, triggerTimeHighFixed, fillerOf}
-use Rattle.measures.specs.Words.{timeFixed}
 use Rattle.items.specs.Items.{itemFrom}
 use Rattle.items.specs.declared.Form.{Form}
 use Rattle.items.specs.declared.Item.{Item}
@@ -19,7 +16,7 @@ use Rattle.reader.specs.declared.Judged.{Judged}
 use Rattle.reader.specs.declared.Judged.the-variants as J
 use Rattle.reader.specs.declared.Step.{Step}
 use Rattle.reader.specs.declared.Step.the-variants as S
-use Rattle.reader.specs.Reader.{Reading, then, isEnd, formAt, atLimit, refusalOf, onward, after, stepAt, withItem, judgeAt, startOf, Whole, Broken, unfinished, endOf, endNumber, outOf, onJudged, readFrom, onStep, checkFrom}
+use Rattle.reader.specs.Reader.{Reading, then, isEnd, formAt, atLimit, refusalOf, after, stepAt, withItem, judgeAt, Whole, Broken, unfinished, endOf, endNumber, outOf, onJudged, readFrom, onStep, checkFrom}
 
 -- the list from i on, where it has not ended
 pub cons-at : (xs : List ℕ) (i j : ℕ) → i < length xs → suc i ≡ j → drop i xs ≡ getD xs i 0 ∷ drop j xs
@@ -86,11 +83,3 @@ end-by s = go (atLimit s) (unfinished (s .phase))
     go true b = refl
     go false true = refl
     go false false = refl
-
--- "the block is: 81440101 00500405 91400009 98000100 00000000 B98002BC C18001B4 D180B0C8 89400009 F9400000"
-abbrev pub runA : List ℕ
-runA = 2168717569 ∷ 5243909 ∷ 2436890633 ∷ 2550137088 ∷ 0 ∷ 3112174268 ∷ 3246391732 ∷ 3514872008 ∷ 2302672905 ∷ 4181721088 ∷ []
-
-pub run-a : checkFrom startOf runA ≡ Whole 10
-unfolding checkFrom stepAt formAt refusalOf atLimit firstOf after onward endOf fieldAt blockHeaderOf blockHeaderFixed blockHeaderWithin parametersFixed trailerOf eventHeaderOf triggerTimeOf triggerTimeHighOf triggerTimeHighFixed timeFixed fillerOf
-run-a = refl

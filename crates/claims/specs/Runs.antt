@@ -1,29 +1,23 @@
--- The bench's runs A and b to i, as rows of one table. Assumes nothing.
+-- The bench's runs A and b to i, as rows of one table, and run A's block. Assumes nothing.
 use Prim.Native.Nat.{ℕ}
-use mathlib.Core.Path.{_≡_, refl}
 use mathlib.Core.Bool.{true}
-use mathlib.Core.List.{List, [], _∷_, map}
+use mathlib.Core.List.{List, [], _∷_}
 use lib.ListN.{length, set, replicate}
-use Rattle.ground.specs.Search.{scan, least, greatest, total, sumOver}
-use Rattle.ground.specs.Tests.{allLe, firstOf}
 use Rattle.settings.specs.declared.Settings.{Settings}
-use Rattle.settings.specs.Ranges.{thresholdsOk, ranges, settingsOk}
-use Rattle.settings.specs.Sample.{samplesOk, amp}
 use Rattle.finder.specs.declared.Rule.{Rule}
 use Rattle.finder.specs.declared.Rule.the-variants.{Early, Late, Flat, Edge}
 use Rattle.finder.specs.declared.Pulse.{Pulse}
-use Rattle.finder.specs.Find.{ampAt, over, firstOver, starts, nextTc, tcFrom, integral, overIn, early, vmin, falls, firstFall, vmid, atMost, n1, fineOf, edgeTime, afterFall, timeAt, pulseAt, pulsesFrom}
-use Rattle.finder.specs.Call.{findTable, findNumber, channelPulses, foundPulses}
+use Rattle.finder.specs.Find.{vmin}
 
 -- a run: what is set and posted, and the pulses that must be found
-pub record Run : Type 0 where
+pub record BenchRun : Type 0 where
   pub settings : Settings
   pub channel : ℕ
   pub window : List ℕ
   pub pulses : List Pulse
 
 -- channel 3 at a threshold, the others at the highest; what the run does not name is run A's
-abbrev run : List ℕ → ℕ → ℕ → ℕ → ℕ → List Pulse → Run
+abbrev run : List ℕ → ℕ → ℕ → ℕ → ℕ → List Pulse → BenchRun
 run w t nsb nsa limit pulses =
     record {
       settings = record {
@@ -49,7 +43,7 @@ abbrev pulse : ℕ → ℕ → ℕ → ℕ → ℕ → ℕ → ℕ → ℕ → R
 pulse tc first last sum coarse fine vmin vpeak rule =
     record { tc = tc; first = first; last = last; sum = sum; time = record { coarse = coarse; fine = fine; vmin = vmin; vpeak = vpeak; rule = rule } }
 
-unfoldable pub rows : List Run
+unfoldable pub rows : List BenchRun
 rows =
     -- A. "TC 7, set 5-11, sum 700, VMIN 11, VPEAK 200, VMID 105, N1 6, fine 52."
     run (10 ∷ 11 ∷ 12 ∷ 11 ∷ 10 ∷ 40 ∷ 120 ∷ 200 ∷ 180 ∷ 90 ∷ 60 ∷ 30 ∷ 12 ∷ 11 ∷ 10 ∷ 11 ∷ []) 100 2 5 3 (pulse 7 5 11 700 6 52 11 200 Edge ∷ [])
@@ -77,14 +71,6 @@ rows =
     ∷ run (512 ∷ 512 ∷ 512 ∷ 512 ∷ 10 ∷ 10 ∷ 10 ∷ 10 ∷ 600 ∷ 800 ∷ 700 ∷ 5 ∷ 5 ∷ 5 ∷ 5 ∷ 5 ∷ []) 550 2 5 3 (pulse 9 7 13 2130 9 17 512 800 Edge ∷ [])
     ∷ []
 
--- the number of the refusal, and the pulses: what the finder answers, and what it must
-pub answered : Run → ℕ × List Pulse
-answered r = (findNumber (r .settings) (r .channel) (r .window), foundPulses (r .settings) (r .channel) (r .window))
-
-pub wanted : Run → ℕ × List Pulse
-wanted r = (0, r .pulses)
-
--- every run is as the bench says
-pub runs : map answered rows ≡ map wanted rows
-unfolding rows answered wanted findNumber findTable firstOf settingsOk ranges thresholdsOk samplesOk allLe foundPulses channelPulses pulsesFrom pulseAt integral sumOver total timeAt early overIn vmin vmid afterFall edgeTime n1 greatest atMost fineOf tcFrom firstOver nextTc firstFall least scan over starts falls ampAt amp
-runs = refl
+-- "the block is: 81440101 00500405 91400009 98000100 00000000 B98002BC C18001B4 D180B0C8 89400009 F9400000"
+abbrev pub runA : List ℕ
+runA = 2168717569 ∷ 5243909 ∷ 2436890633 ∷ 2550137088 ∷ 0 ∷ 3112174268 ∷ 3246391732 ∷ 3514872008 ∷ 2302672905 ∷ 4181721088 ∷ []
