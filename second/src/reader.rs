@@ -176,11 +176,7 @@ impl<'a> Block<'a> {
         let quality = take(word, 20, 19);
         match tag(word) {
             None => self.continuation(word),
-            Some(words::BLOCK_HEADER) => {
-                let events = take(word, 7, 0);
-                let good = take(word, 21, 18) == 1 && events > 0;
-                good.then_some(Word::Header { slot, number: take(word, 17, 8), events })
-            }
+            Some(words::BLOCK_HEADER) => header(word),
             Some(words::TRAILER) => Some(Word::Trailer { words: take(word, 21, 0) }),
             Some(words::EVENT_HEADER) => Some(Word::Event { number: take(word, 21, 0) }),
             Some(words::TRIGGER_TIME) => Some(Word::TimeLow { bits: take(word, 26, 0) }),
@@ -271,6 +267,13 @@ impl<'a> Block<'a> {
             _ => After::Whole,
         };
     }
+}
+
+/// A block header: module 1, and at least one event.
+fn header(word: u32) -> Option<Word> {
+    let (slot, number, events) = (take(word, 26, 22), take(word, 17, 8), take(word, 7, 0));
+    let good = take(word, 21, 18) == 1 && events > 0;
+    good.then_some(Word::Header { slot, number, events })
 }
 
 /// A pair whose bit 13 may, or must, be set; `None` for 13.

@@ -423,6 +423,30 @@ fn refusals_7_and_8() {
     assert_eq!(calls::open_event(&mut state, 4_194_303, (1 << 48) - 1), 0);
 }
 
+/// A place and a number that no state in an event has there: phase, block number, events, event, time, marks, closed, words, settings.
+const FORGED: [(usize, u64); 20] = [
+    (0, 0),
+    (0, 1),
+    (0, 3),
+    (1, 1_024),
+    (2, 0),
+    (2, 256),
+    (3, 4_194_304),
+    (4, 1 << 48),
+    (5, 1 << 16),
+    (6, 1),
+    (7, 1),
+    (7, 3),
+    (7, u64::MAX),
+    (8, 5),
+    (9, 501),
+    (15, 2),
+    (33, 4_096),
+    (1, 1 << 32),
+    (6, 1 << 32),
+    (33, 1 << 32),
+];
+
 #[test]
 fn refusal_10_forged_states() {
     let (good, store, mut words) = in_event();
@@ -431,30 +455,7 @@ fn refusal_10_forged_states() {
         change.iter().for_each(|&(place, value)| state[place] = value);
         calls::close(&mut state, &store, &mut words)
     };
-    // phase, block number, events, event, time, marks, closed, words, settings
-    let bad = [
-        (0, 0),
-        (0, 1),
-        (0, 3),
-        (1, 1_024),
-        (2, 0),
-        (2, 256),
-        (3, 4_194_304),
-        (4, 1 << 48),
-        (5, 1 << 16),
-        (6, 1),
-        (7, 1),
-        (7, 3),
-        (7, u64::MAX),
-        (8, 5),
-        (9, 501),
-        (15, 2),
-        (33, 4_096),
-        (1, 1 << 32),
-        (6, 1 << 32),
-        (33, 1 << 32),
-    ];
-    for change in bad {
+    for change in FORGED {
         assert_eq!(forge(&[change]), 10, "{change:?}");
     }
     // Events closed 1 of 2: 2 + 3 words at least, 2 + 12,051 at most.

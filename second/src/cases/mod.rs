@@ -190,22 +190,32 @@ fn bad_sample(rng: &mut Rng) -> u16 {
     rng.pick(&[8_192, 8_193, 0x4000, 0x8000, 0xE123, u16::MAX])
 }
 
-/// A window of good samples, in one of many shapes around the threshold.
-fn window(rng: &mut Rng, nw: usize, threshold: u32) -> Vec<u16> {
-    let near =
-        |rng: &mut Rng| (threshold as u16 + rng.below(3) as u16).saturating_sub(1).min(4_095);
-    let low = |rng: &mut Rng| rng.below(u64::from(threshold) + 1) as u16;
-    let high = |rng: &mut Rng| rng.between(u64::from(threshold), 4_095) as u16;
+/// The threshold, or a neighbour of it.
+fn near(rng: &mut Rng, threshold: u32) -> u16 {
+    (threshold as u16 + rng.below(3) as u16).saturating_sub(1).min(4_095)
+}
+
+fn low(rng: &mut Rng, threshold: u32) -> u16 {
+    rng.below(u64::from(threshold) + 1) as u16
+}
+
+fn high(rng: &mut Rng, threshold: u32) -> u16 {
+    rng.between(u64::from(threshold), 4_095) as u16
+}
+
+/// One of many shapes around the threshold.
+fn shape(rng: &mut Rng, nw: usize, threshold: u32) -> Vec<u16> {
+    let low = |rng: &mut Rng| low(rng, threshold);
+    let high = |rng: &mut Rng| high(rng, threshold);
     let start = rng.place(nw + 1);
     let late = nw.saturating_sub(rng.place(9));
     let level = high(rng);
     let step = rng.between(1, 40) as u16;
     let period = rng.between(1, 12) as usize;
     let width = rng.between(1, period as u64) as usize;
-    let shape = rng.below(14);
-    let mut samples: Vec<u16> = match shape {
+    match rng.below(14) {
         0 => (0..nw).map(|_| rng.below(8_192) as u16).collect(),
-        1 => (0..nw).map(|_| near(rng)).collect(),
+        1 => (0..nw).map(|_| near(rng, threshold)).collect(),
         2 => vec![rng.pick(&[0, level, threshold as u16, 4_095, 4_096, 8_191]); nw],
         3 => (0..nw).map(|k| (k as u16).saturating_mul(step).min(4_095)).collect(),
         4 => (0..nw).map(|k| level.saturating_sub((k as u16).saturating_mul(step))).collect(),
@@ -222,7 +232,12 @@ fn window(rng: &mut Rng, nw: usize, threshold: u32) -> Vec<u16> {
             (0..nw).map(|k| if k < 4 { rng.between(509, 514) as u16 } else { high(rng) }).collect()
         }
         _ => train(rng, nw, threshold),
-    };
+    }
+}
+
+/// A window of good samples: a shape, touched up.
+fn window(rng: &mut Rng, nw: usize, threshold: u32) -> Vec<u16> {
+    let mut samples = shape(rng, nw, threshold);
     // 128 x 4,095 + 127 = 524,287
     if CAP.contains(&nw) && rng.once_in(2) {
         samples = vec![4_095; nw];
@@ -232,14 +247,14 @@ fn window(rng: &mut Rng, nw: usize, threshold: u32) -> Vec<u16> {
     }
     // A quiet start, without which no time is interpolated.
     if rng.once_in(2) {
-        samples.iter_mut().take(4).for_each(|sample| *sample = low(rng));
+        samples.iter_mut().take(4).for_each(|sample| *sample = low(rng, threshold));
     }
     if rng.once_in(3) {
         let rarity = rng.pick(&[1, 2, 10]);
         samples.iter_mut().filter(|_| rng.once_in(rarity)).for_each(|s| *s |= 0x1000);
     }
     if rng.once_in(4) && nw > 0 {
-        samples[rng.place(nw)] = near(rng);
+        samples[rng.place(nw)] = near(rng, threshold);
     }
     samples
 }

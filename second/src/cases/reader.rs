@@ -230,49 +230,39 @@ fn plausible(rng: &mut Rng, slot: u32) -> u32 {
     }
 }
 
+/// The damages, by their numbers below.
+const DAMAGES: [&str; 9] = [
+    "bit flipped",
+    "bit flipped",
+    "word lost",
+    "word doubled",
+    "words swapped",
+    "cut at a word",
+    "word at random",
+    "word replaced",
+    "word put in",
+];
+
 /// One damage, and its name.
 fn damage(rng: &mut Rng, words: &mut Vec<u32>) -> &'static str {
     if words.is_empty() {
         return "empty";
     }
+    let slot = take(words[0], 26, 22);
     let place = rng.place(words.len());
     let other = rng.place(words.len());
-    match rng.below(9) {
-        0 | 1 => {
-            words[place] ^= 1 << rng.below(32);
-            "bit flipped"
-        }
-        2 => {
-            words.remove(place);
-            "word lost"
-        }
-        3 => {
-            words.insert(place, words[place]);
-            "word doubled"
-        }
-        4 => {
-            words.swap(place, other);
-            "words swapped"
-        }
-        5 => {
-            words.truncate(place);
-            "cut at a word"
-        }
-        6 => {
-            words[place] = rng.next() as u32;
-            "word at random"
-        }
-        7 => {
-            let slot = take(words[0], 26, 22);
-            words[place] = plausible(rng, slot);
-            "word replaced"
-        }
-        _ => {
-            let slot = take(words[0], 26, 22);
-            words.insert(place, plausible(rng, slot));
-            "word put in"
-        }
+    let kind = rng.place(DAMAGES.len());
+    match kind {
+        0 | 1 => words[place] ^= 1 << rng.below(32),
+        2 => drop(words.remove(place)),
+        3 => words.insert(place, words[place]),
+        4 => words.swap(place, other),
+        5 => words.truncate(place),
+        6 => words[place] = rng.next() as u32,
+        7 => words[place] = plausible(rng, slot),
+        _ => words.insert(place, plausible(rng, slot)),
     }
+    DAMAGES[kind]
 }
 
 /// Makes the last trailer's count right again.
