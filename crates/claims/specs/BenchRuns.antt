@@ -28,7 +28,7 @@ use Rattle.writer.specs.State.{blockOk, eventOk, mostEvent, wordsOk, noMarks, p
 use Rattle.writer.specs.Calls.{setUpNumber, SetUpSays, blockItems, openBlockTable, openBlockNumber, OpenBlockSays, openEventTable, openEventNumber, OpenEventSays, postTable, postNumber, PostSays, closeTable, closeNumber, CloseSays, fillersTo, endItems, finishTable, finishNumber, FinishSays, closingItems}
 use Rattle.event.specs.Event.{row, rowsOk, timeItems, channelsItems, eventItems}
 use Rattle.channel.specs.Channel.{commonOf, channelItems, partsOf, pulsesItems, pulseItems, integralItem, timeItem, pedestalItem}
-use Rattle.claims.specs.Runs.{BenchRun, rows, runA}
+use Rattle.claims.specs.Runs.{BenchRun, settingsOf, windowA, rows, runA}
 
 -- ---- every run with its channel's records
 
@@ -85,30 +85,14 @@ beside (r ∷ rs) (x ∷ xs) = (0, (r .pulses, x)) ∷ beside rs xs
 
 -- every run is as the bench says: refusal 0, pulses, sets, sums, times, and what is written
 pub bench-runs : map answeredAll rows ≡ beside rows written
-unfolding rows written answeredAll findNumber findTable firstOf settingsOk ranges thresholdsOk samplesOk allLe foundPulses channelPulses pulsesFrom pulseAt integral sumOver total timeAt early overIn vmin vmid afterFall edgeTime n1 greatest atMost fineOf tcFrom firstOver nextTc firstFall least scan over starts falls ampAt amp channelItems partsOf pulsesItems pulseItems integralItem timeItem pedestalItem
+unfolding settingsOf rows written answeredAll findNumber findTable firstOf settingsOk ranges thresholdsOk samplesOk allLe foundPulses channelPulses pulsesFrom pulseAt integral sumOver total timeAt early overIn vmin vmid afterFall edgeTime n1 greatest atMost fineOf tcFrom firstOver nextTc firstFall least scan over starts falls ampAt amp channelItems partsOf pulsesItems pulseItems integralItem timeItem pedestalItem
 bench-runs = refl
 
 -- ---- run A's block
 
-abbrev pub windowA : List ℕ
-windowA = 10 ∷ 11 ∷ 12 ∷ 11 ∷ 10 ∷ 40 ∷ 120 ∷ 200 ∷ 180 ∷ 90 ∷ 60 ∷ 30 ∷ 12 ∷ 11 ∷ 10 ∷ 11 ∷ []
-
--- "mode 7, slot 5, .. PL 20, parameters on, two time words, multiple 2"
-unfoldable pub settingsA : Settings
-settingsA =
-    record {
-      mode = 7;
-      nw = 16;
-      pl = 20;
-      nsb = 2;
-      nsa = 5;
-      limit = 3;
-      thresholds = set (replicate 16 4095) 3 100;
-      slot = 5;
-      parameters = true;
-      times = 2;
-      multiple = 2;
-    }
+-- "NW 16, threshold 100, NSB 2, NSA 5, limit 3"
+abbrev pub settingsA : Settings
+settingsA = settingsOf windowA 100 2 5 3
 
 -- "block 1, one event number 9, time 256": the six calls, each from the state and the buffers that the one before left
 pub record CallsOfA (a b c d e : Answer) (f : Finished) (store words words′ words″ : List ℕ) : Type 0 where
@@ -142,7 +126,7 @@ eventWordsA = take 8 runA ++ replicate 2 0
 
 -- "the block is": its ten words, and the length that finish answers
 pub run-a-block : {a b c d e : Answer} {f : Finished} {store words words′ words″ : List ℕ} → CallsOfA a b c d e f store words words′ words″ → (words″ ≡ runA) × (f .length ≡ 10)
-unfolding blockHeader parameters eventHeader triggerTime triggerTimeHigh M.integral M.time M.pedestal trailer filler settingsA setUpNumber openBlockNumber openBlockTable openEventNumber openEventTable postNumber postTable closeNumber closeTable finishNumber finishTable firstOf settingsOk ranges thresholdsOk samplesOk allLe stateOk phaseOk noMarks blockOk eventOk wordsOk mostEvent idle blank withBlock withEvent withMark withClosed blockItems endItems fillersTo eventItems timeItems channelsItems rowsOk row splice wordOf channelItems partsOf pulsesItems pulseItems integralItem timeItem pedestalItem pulsesFrom pulseAt integral sumOver total timeAt early overIn vmin vmid afterFall edgeTime n1 greatest atMost fineOf tcFrom firstOver nextTc firstFall least scan over starts falls ampAt amp
+unfolding blockHeader parameters eventHeader triggerTime triggerTimeHigh M.integral M.time M.pedestal trailer filler settingsOf setUpNumber openBlockNumber openBlockTable openEventNumber openEventTable postNumber postTable closeNumber closeTable finishNumber finishTable firstOf settingsOk ranges thresholdsOk samplesOk allLe stateOk phaseOk noMarks blockOk eventOk wordsOk mostEvent idle blank withBlock withEvent withMark withClosed blockItems endItems fillersTo eventItems timeItems channelsItems rowsOk row splice wordOf channelItems partsOf pulsesItems pulseItems integralItem timeItem pedestalItem pulsesFrom pulseAt integral sumOver total timeAt early overIn vmin vmid afterFall edgeTime n1 greatest atMost fineOf tcFrom firstOver nextTc firstFall least scan over starts falls ampAt amp
 run-a-block {a} {b} {c} {d} {e} {f} {store} {words} {words′} {words″} r =
     let s0 : a .state ≡ idle settingsA = r .setUp .state in
     let c1 : OpenBlockSays (idle settingsA) (replicate 10 0) 1 1 b words = subst (λ (s : State). OpenBlockSays s (replicate 10 0) 1 1 b words) s0 (r .openBlock) in
@@ -161,5 +145,5 @@ run-a-block {a} {b} {c} {d} {e} {f} {store} {words} {words′} {words″} r =
 
 -- the reader takes the ten words, and answers every record as it was written
 pub run-a-read : (readFrom startOf runA .out ≡ Whole 10) × (readFrom startOf runA .items ≡ blockItems settingsA 1 1 ++ (closingItems postedA storeA ++ endItems settingsA 8))
-unfolding fieldAt blockHeaderOf blockHeaderFixed blockHeaderWithin parametersOf parametersFixed trailerOf eventHeaderOf triggerTimeOf triggerTimeHighOf triggerTimeHighFixed fillerOf M.integralOf M.timeOf M.timeFixed M.pedestalOf formAt atLimit refusalOf onward after stepAt judgeAt endOf readFrom settingsA firstOf idle withBlock withEvent withMark withClosed blockItems endItems fillersTo eventItems timeItems channelsItems row splice channelItems partsOf pulsesItems pulseItems integralItem timeItem pedestalItem pulsesFrom pulseAt integral sumOver total timeAt early overIn vmin vmid afterFall edgeTime n1 greatest atMost fineOf tcFrom firstOver nextTc firstFall least scan over starts falls ampAt amp
+unfolding fieldAt blockHeaderOf blockHeaderFixed blockHeaderWithin parametersOf parametersFixed trailerOf eventHeaderOf triggerTimeOf triggerTimeHighOf triggerTimeHighFixed fillerOf M.integralOf M.timeOf M.timeFixed M.pedestalOf formAt atLimit refusalOf onward after stepAt judgeAt endOf readFrom settingsOf firstOf idle withBlock withEvent withMark withClosed blockItems endItems fillersTo eventItems timeItems channelsItems row splice channelItems partsOf pulsesItems pulseItems integralItem timeItem pedestalItem pulsesFrom pulseAt integral sumOver total timeAt early overIn vmin vmid afterFall edgeTime n1 greatest atMost fineOf tcFrom firstOver nextTc firstFall least scan over starts falls ampAt amp
 run-a-read = (refl, refl)

@@ -178,10 +178,14 @@ abbrev pub TreeOk : Tree → Type 0
 TreeOk (block b) = BlockOk b
 TreeOk (empty r) = Unit {0}
 
--- a block of the layout: its tree is as above, and every field is within its bits; so the trailer's 22 bits bound the block
+-- every field is within its bits
+abbrev pub Widths : List Item → Type 0
+Widths xs = Each (λ x. fits x ≡ true) xs
+
+-- a block of the layout: its tree is as above, and the fields fit; so the trailer's 22 bits bound the block
 pub record WellFormed (t : Tree) : Type 0 where
   pub tree : TreeOk t
-  pub widths : Each (λ x. fits x ≡ true) (recordsOf t)
+  pub widths : Widths (recordsOf t)
 
 -- ---- its words
 

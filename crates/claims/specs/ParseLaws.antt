@@ -26,7 +26,7 @@ use Rattle.reader.specs.declared.Phase.the-variants as P
 use Rattle.reader.specs.declared.Scan.{Scan}
 use Rattle.reader.specs.Reader.{mostPairs, pairsOf, moreIn, edges, inner, allowedIn, otherIn, formIn, unfinished, isNo, isEnd, flagWrong, timeWrong, onward, paired, filled, after, startOf}
 use Rattle.claims.specs.Layout.{Stands, Follow, IsBlock}
-use Rattle.claims.specs.Grammar.{Piece, window, raw, integral, time, pedestal, no-clock, clock27, clock48, EventTree, Setup, no-setup, setup, Tree, block, empty, eachPair, pieceOf, piecesOf, clockOf, eventsOf, setupOf, recordsOf, Each, BothValid, OddEnd, WindowPairs, LastPair, full, short, RawPairs, PieceOk, ClockOk, EventOk, TreeOk, WellFormed}
+use Rattle.claims.specs.Grammar.{Piece, window, raw, integral, time, pedestal, no-clock, clock27, clock48, EventTree, Setup, no-setup, setup, Tree, block, empty, eachPair, pieceOf, piecesOf, clockOf, eventsOf, setupOf, recordsOf, Each, BothValid, OddEnd, WindowPairs, LastPair, full, short, RawPairs, PieceOk, ClockOk, EventOk, TreeOk, WellFormed, Widths}
 
 -- ---- the rest of the records, by where the reading stands
 
@@ -341,7 +341,7 @@ shape-of : (s : Scan) (xs : List Item) → Follow s xs → Here s xs
 shape-of s [] h = no-more (s .phase) s h
 shape-of s (x ∷ xs) h = one-more s x xs (h .0) (shape-of (after s x) xs (h .1))
 
-widths-of : (s : Scan) (xs : List Item) → Follow s xs → Each (λ x. fits x ≡ true) xs
+widths-of : (s : Scan) (xs : List Item) → Follow s xs → Widths xs
 widths-of s [] h = tt
 widths-of s (x ∷ xs) h = (h .0 .widths, widths-of (after s x) xs (h .1))
 
@@ -355,4 +355,4 @@ pub record Parsed (xs : List Item) : Type 0 where
 pub block-has-tree : (xs : List Item) → IsBlock xs → Parsed xs
 block-has-tree xs h =
     let (t, k, e) = shape-of startOf xs h refl in
-    record { tree = t; formed = record { tree = k; widths = subst (λ (ys : List Item). Each (λ x. fits x ≡ true) ys) (sym e) (widths-of startOf xs h) }; are = e }
+    record { tree = t; formed = record { tree = k; widths = subst Widths (sym e) (widths-of startOf xs h) }; are = e }

@@ -34,8 +34,8 @@ use Rattle.writer.specs.WordsLaws.{fillers-lt}
 use Rattle.claims.specs.Layout.{IsBlock}
 use Rattle.claims.specs.LayoutLaws.{round-trip}
 use Rattle.claims.specs.PassLaws.{both}
-use Rattle.claims.specs.Grammar.{EventTree, no-setup, setup, BlockTree, block, eventOf, eventsOf, setupOf, bodyOf, Each, EventOk, BlockOk}
-use Rattle.claims.specs.GrammarLaws.{Widths, tree-is-block}
+use Rattle.claims.specs.Grammar.{EventTree, no-setup, setup, BlockTree, block, eventOf, eventsOf, setupOf, bodyOf, Each, EventOk, BlockOk, Widths}
+use Rattle.claims.specs.GrammarLaws.{tree-is-block}
 use Rattle.claims.specs.ParseLaws.{Parsed}
 use Rattle.claims.specs.WrittenLaws.{TreeOf, each-append, event-made}
 use Rattle.claims.specs.Refused.{open-block-refused, close-refused, finish-refused}

@@ -7,7 +7,6 @@ use Rattle.settings.specs.declared.Settings.{Settings}
 use Rattle.finder.specs.declared.Rule.{Rule}
 use Rattle.finder.specs.declared.Rule.the-variants.{Early, Late, Flat, Edge}
 use Rattle.finder.specs.declared.Pulse.{Pulse}
-use Rattle.finder.specs.Find.{vmin}
 
 -- a run: what is set and posted, and the pulses that must be found
 pub record BenchRun : Type 0 where
@@ -16,37 +15,39 @@ pub record BenchRun : Type 0 where
   pub window : List ℕ
   pub pulses : List Pulse
 
--- channel 3 at a threshold, the others at the highest; what the run does not name is run A's
-abbrev run : List ℕ → ℕ → ℕ → ℕ → ℕ → List Pulse → BenchRun
-run w t nsb nsa limit pulses =
+-- "mode 7, slot 5, .. PL 20, parameters on, two time words, multiple 2", channel 3 at a threshold, the others at the highest
+unfoldable pub settingsOf : List ℕ → ℕ → ℕ → ℕ → ℕ → Settings
+settingsOf w t nsb nsa limit =
     record {
-      settings = record {
-        mode = 7;
-        nw = length w;
-        pl = 20;
-        nsb = nsb;
-        nsa = nsa;
-        limit = limit;
-        thresholds = set (replicate 16 4095) 3 t;
-        slot = 5;
-        parameters = true;
-        times = 2;
-        multiple = 2;
-      };
-      channel = 3;
-      window = w;
-      pulses = pulses;
+      mode = 7;
+      nw = length w;
+      pl = 20;
+      nsb = nsb;
+      nsa = nsa;
+      limit = limit;
+      thresholds = set (replicate 16 4095) 3 t;
+      slot = 5;
+      parameters = true;
+      times = 2;
+      multiple = 2;
     }
+
+-- what a run does not name is run A's
+abbrev run : List ℕ → ℕ → ℕ → ℕ → ℕ → List Pulse → BenchRun
+run w t nsb nsa limit pulses = record { settings = settingsOf w t nsb nsa limit; channel = 3; window = w; pulses = pulses }
 
 -- TC, first, last, sum, coarse, fine, VMIN, VPEAK and the rule
 abbrev pulse : ℕ → ℕ → ℕ → ℕ → ℕ → ℕ → ℕ → ℕ → Rule → Pulse
 pulse tc first last sum coarse fine vmin vpeak rule =
     record { tc = tc; first = first; last = last; sum = sum; time = record { coarse = coarse; fine = fine; vmin = vmin; vpeak = vpeak; rule = rule } }
 
+abbrev pub windowA : List ℕ
+windowA = 10 ∷ 11 ∷ 12 ∷ 11 ∷ 10 ∷ 40 ∷ 120 ∷ 200 ∷ 180 ∷ 90 ∷ 60 ∷ 30 ∷ 12 ∷ 11 ∷ 10 ∷ 11 ∷ []
+
 unfoldable pub rows : List BenchRun
 rows =
     -- A. "TC 7, set 5-11, sum 700, VMIN 11, VPEAK 200, VMID 105, N1 6, fine 52."
-    run (10 ∷ 11 ∷ 12 ∷ 11 ∷ 10 ∷ 40 ∷ 120 ∷ 200 ∷ 180 ∷ 90 ∷ 60 ∷ 30 ∷ 12 ∷ 11 ∷ 10 ∷ 11 ∷ []) 100 2 5 3 (pulse 7 5 11 700 6 52 11 200 Edge ∷ [])
+    run windowA 100 2 5 3 (pulse 7 5 11 700 6 52 11 200 Edge ∷ [])
     -- b. "V 100 at threshold 100: none; 101: pulse."
     ∷ run (100 ∷ []) 100 2 5 3 []
     ∷ run (101 ∷ []) 100 2 5 3 (pulse 1 1 1 101 1 0 0 0 Early ∷ [])
