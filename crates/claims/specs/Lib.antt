@@ -24,3 +24,5 @@ pub mod Runs
 pub mod BenchRuns
 pub mod CheckLaws
 pub mod Unique
+pub mod Ends
+pub mod EndsLaws
