@@ -24,5 +24,5 @@ pub mod Runs
 pub mod BenchRuns
 pub mod CheckLaws
 pub mod Unique
-pub mod Ends
-pub mod EndsLaws
+pub mod FieldEnds
+pub mod FieldEndsLaws

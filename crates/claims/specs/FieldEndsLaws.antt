@@ -19,7 +19,7 @@ use Rattle.measures.specs.WordsLaws.{integral-there, time-there, pedestal-there
 use Rattle.items.specs.Items.{wordOf, fits}
 use Rattle.channel.specs.Channel.{integralItem, timeItem, pedestalItem}
 use Rattle.claims.specs.WrittenLaws.{integral-made, time-made, pedestal-made}
-use Rattle.claims.specs.Ends.{PulseEnds}
+use Rattle.claims.specs.FieldEnds.{PulseEnds}
 
 module _ (c i n : ℕ) (p : Pulse) (k : c ≤ 15) (j : i ≤ 3) (m : n ≤ 500) (f : PulseFits n p) where
   ends : PulseEnds c i p
