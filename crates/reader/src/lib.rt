@@ -36,17 +36,18 @@ pub struct Scan {
     pub phase: Phase,
 }
 
-// What one word does: it is of that form and the scan goes on, it is refused with a number, or the block ends before it.
+// What one word does: it is of that form and the scan goes on, it is refused with a number at its place, or the block ends
+// before it.
 pub enum Step {
     Went(Form, Scan),
-    Refused(u32),
+    Refused(u32, u32),
     Ended,
 }
 
 // The same with the word's record.
 pub enum Judged {
     Took(Item, Scan),
-    Refused(u32),
+    Refused(u32, u32),
     Ended,
 }
 
@@ -68,7 +69,7 @@ impl Scan {
         ensures { λ r. ⌜ r ≡ stepAt self word ⌝ }
     {
         if question::at_limit(self) {
-            return Step::Refused(14);
+            return Step::Refused(14, self.place);
         }
         let p = self.phase;
         if let Phase::Window(n, odd) = p {
@@ -82,7 +83,7 @@ impl Scan {
         if refusal == 0 {
             Step::Went(form, after::scan_after(self, form, word))
         } else {
-            Step::Refused(refusal)
+            Step::Refused(refusal, self.place)
         }
     }
 
@@ -104,7 +105,7 @@ impl Scan {
         let step = self.step(word);
         match step {
             Step::Went(form, after) => Judged::Took(Item::take_apart(form, word), after),
-            Step::Refused(number) => Judged::Refused(number),
+            Step::Refused(number, place) => Judged::Refused(number, place),
             Step::Ended => Judged::Ended,
         }
     }
