@@ -55,7 +55,7 @@ returns : tie.Need-returns Inv-loop μ-loop
 returns c =
     let e = c .before .before .before .before .before .judged2 .given .1 in
     let j = c .before .before .before .before .before .before .before in
-    left-none (left-is (judged j e) (ap just (refused-some _ _ _ (sym e ∙ j .judge .ensures)))) (c .before .before .stop .ensures)
+    left-none (left-is (judged j e) (ap just (refused-some _ _ (sym e ∙ j .judge .ensures)))) (c .before .before .stop .ensures)
 
 same-length-2 : tie.Need-same-length-2 Inv-loop μ-loop
 same-length-2 c = c .before .before .stop2 .kept .0 ∙ c .before .before .before .before .before .before .before .before .before .before .loop .inv .2
