@@ -51,7 +51,7 @@ fn time_from(words: &[u32], from: usize, time: TriggerTime, scan: Scan) -> Next
         let judged = scan.judge(words[from]);
         match judged {
             Judged::Took(item, after) => with_high(time, scan, item, after),
-            Judged::Refused(_) => Next::Took(Record::Time27(time), scan),
+            Judged::Refused(_, _) => Next::Took(Record::Time27(time), scan),
             Judged::Ended => Next::Took(Record::Time27(time), scan),
         }
     } else {
@@ -74,7 +74,7 @@ fn fillers_from(words: &[u32], from: usize, slot: u32, scan: Scan) -> Next
                 count = more(count);
                 at += 1;
             }
-            Step::Refused(_) => {
+            Step::Refused(_, _) => {
                 return Next::Took(Record::Fillers(slot, count), t);
             }
             Step::Ended => {
@@ -127,7 +127,7 @@ pub fn next(words: &[u32], scan: Scan) -> Next
         let judged = scan.judge(words[at]);
         match judged {
             Judged::Took(item, after) => record_from(words, at + 1, item, after),
-            Judged::Refused(number) => Next::Refused(number, scan.place),
+            Judged::Refused(number, place) => Next::Refused(number, place),
             Judged::Ended => Next::End(scan.place),
         }
     } else {
