@@ -1,6 +1,7 @@
 // Reads a block of the format word by word: where the reading stands, and what one word does to it.
 ghost use mathlib.Core.Path.{_≡_};
-ghost use Rattle.reader.specs.Reader.{startOf, endNumber, stepAt, judgeAt};
+ghost use Rattle.reader.specs.Reader.{startOf, endNumber};
+ghost use Rattle.reader.specs.Answers.{StepSays, JudgedSays};
 use items::Form;
 use items::Item;
 
@@ -66,7 +67,7 @@ impl Scan {
 
     // One word; no record is made.
     pub fn step(self, word: u32) -> Step
-        ensures { λ r. ⌜ r ≡ stepAt self word ⌝ }
+        ensures { λ r. ⌜ StepSays self word r ⌝ }
     {
         if question::at_limit(self) {
             return Step::Refused(14, self.place);
@@ -100,7 +101,7 @@ impl Scan {
 
     // One word with its record.
     pub fn judge(self, word: u32) -> Judged
-        ensures { λ r. ⌜ r ≡ judgeAt self word ⌝ }
+        ensures { λ r. ⌜ JudgedSays self word r ⌝ }
     {
         let step = self.step(word);
         match step {

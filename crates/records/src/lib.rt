@@ -2,7 +2,8 @@
 ghost use mathlib.Core.Path.{_≡_};
 ghost use lib.ListN.{drop};
 ghost use Rattle.reader.specs.Reader.{onward, endNumber};
-ghost use Rattle.records.specs.Next.{partOf, withHigh, timeFrom, fillersFrom, recordFrom, ended, nextAt};
+ghost use Rattle.records.specs.Next.{partOf, withHigh, timeFrom, fillersFrom, recordFrom, ended};
+ghost use Rattle.records.specs.Answers.{NextSays};
 use answer::Next;
 use answer::Pairs;
 use answer::Record;
@@ -120,7 +121,7 @@ fn end_of(scan: Scan) -> Next
 
 // The next record of the block whose first word is the first of `words`.
 pub fn next(words: &[u32], scan: Scan) -> Next
-    ensures { λ r. ⌜ r ≡ nextAt (now (words .entry)) scan ⌝ }
+    ensures { λ r. ⌜ NextSays (now (words .entry)) scan r ⌝ }
 {
     let at = scan.place as usize;
     if at < words.len() {
