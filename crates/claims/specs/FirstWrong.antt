@@ -22,7 +22,7 @@ use Rattle.reader.specs.declared.Step.the-variants as S
 use Rattle.reader.specs.declared.Judged.{Judged}
 use Rattle.reader.specs.declared.Judged.the-variants as J
 use Rattle.reader.specs.Reader.{formIn, formAt, unfinished, atLimit, isEnd, onward, paired, filled, phaseAfter, after, stepAt, withItem, judgeAt, startOf, Out, Whole, Broken, endOf, then, onJudged, readFrom}
-use Rattle.reader.specs.ReaderLaws.{Accepted, accepted}
+use Rattle.reader.specs.ReaderLaws.{Accepted, accepted, refused-here}
 
 -- a run that stops before the end of its input is the same on every input that begins alike, up to the word where it stops
 same-start : (s : Scan) (x y : List ℕ) → length ((readFrom s x) .items) < length x
@@ -40,7 +40,7 @@ same-start s (w ∷ x) (v ∷ y) h e =
         → ((t : Scan) → length ((readFrom t x) .items) < length x → take (suc (length ((readFrom t x) .items))) y ≡ take (suc (length ((readFrom t x) .items))) x → readFrom t y ≡ readFrom t x)
         → onJudged j (s .place) (λ t. readFrom t y) ≡ onJudged j (s .place) (λ t. readFrom t x)
     go (J.Took a t) h r n = ap (then a) (n t (omega arith) r)
-    go (J.Refused k) h r n = refl
+    go (J.Refused k p) h r n = refl
     go J.Ended h r n = refl
 
 -- ---- places count the words
@@ -185,7 +185,7 @@ place-within s (w ∷ ws) p = go (stepAt s w) refl (λ t. place-within t ws)
   where
     go : (j : Step) → stepAt s w ≡ j → ((t : Scan) → Placed t → placeOf ((readFrom t ws) .out) ≤ 4194306) → placeOf ((onJudged (withItem w j) (s .place) (λ t. readFrom t ws)) .out) ≤ 4194306
     go (S.Went f t) e n = n t (placed-after s w f t p (accepted s w e))
-    go (S.Refused k) e n = omega arith
+    go (S.Refused k q) e n = omega (arith, refused-here s w e)
     go S.Ended e n = omega arith
 
 -- the place where a run ends, refused or not, is the number of the records read before it; from any scan, if it is not the largest place
@@ -198,7 +198,7 @@ place-counts s (w ∷ ws) p = go (stepAt s w) refl (λ t. place-counts t ws) p
         → placeOf ((onJudged (withItem w j) (s .place) (λ t. readFrom t ws)) .out) < 2 ^ 32 - 1
         → placeOf ((onJudged (withItem w j) (s .place) (λ t. readFrom t ws)) .out) ≡ s .place + length ((onJudged (withItem w j) (s .place) (λ t. readFrom t ws)) .items)
     go (S.Went f t) e n p = omega (arith, n t p, ap (λ (u : Scan). u .place) (accepted s w e .scan))
-    go (S.Refused k) e n p = omega arith
+    go (S.Refused k q) e n p = omega (arith, refused-here s w e)
     go S.Ended e n p = omega arith
 
 -- below the largest place from a block's start on

@@ -200,7 +200,7 @@ pairs-say t n (word ∷ words) h = by-due (pairDue (t .phase) (isContinuation wo
               run = run ∙ ap (then (I.Pair (pairOf word))) (a .run);
             }
         more (G.Bad k at) a = ap (λ (x : Reading). x .out) run ∙ a
-    by-step (S.Refused k) e due r = ap (λ (x : Reading). x .out) (read-at t word words (judge-by t word e))
+    by-step (S.Refused k p) e due r = ap (λ (x : Reading). x .out) (read-at t word words (judge-by t word e))
     by-step S.Ended e due r = no-pair t n (word ∷ words) h
 
     by-due : (b : Bool) → pairDue (t .phase) (isContinuation word) ≡ b → ((u : Scan) → SaysPairs u (onward n) words (pairsFrom u (onward n) words)) → SaysPairs t n (word ∷ words) (cond b (onPair (stepAt t word) t n (λ u. pairsFrom u (onward n) words)) (G.All n t))
@@ -240,7 +240,7 @@ fillers-say slot n t (word ∷ words) h end same = go (stepAt t word) refl (λ u
           many = onward-add n (length (b .items)) (b .count) (b .many);
           run = read-at t word words (judge-by t word went) ∙ ap (then (itemFrom F.Filler word)) (b .run);
         }
-    go (S.Refused k) e r = no-filler slot n t (word ∷ words) h
+    go (S.Refused k p) e r = no-filler slot n t (word ∷ words) h
     go S.Ended e r = no-filler slot n t (word ∷ words) h
 
 -- ---- what reading on answers
@@ -295,7 +295,7 @@ time-says s t word (next ∷ words) r e = by-judged (judgeAt t next) refl
         by-item (I.Pedestal x) f = alone
         by-item (I.Empty x) f = alone
         by-item (I.Filler x) f = alone
-    by-judged (J.Refused n) f = alone
+    by-judged (J.Refused n p) f = alone
     by-judged J.Ended f = alone
 
 -- a raw item, by what its pairs say
@@ -357,5 +357,5 @@ next-says s (word ∷ words) = by-step (stepAt s word) refl
 
     by-step : (y : Step) → stepAt s word ≡ y → SaysNext s (word ∷ words) (onJudged (withItem word y) (s .place) words)
     by-step (S.Went f t) e = let a = accepted s word e in by-form f t e a (place-after s t (itemFrom f word) (a .scan))
-    by-step (S.Refused n) e = ap (λ (x : Reading). x .out) (read-at s word words (judge-by s word e))
+    by-step (S.Refused n p) e = ap (λ (x : Reading). x .out) (read-at s word words (judge-by s word e))
     by-step S.Ended e = read-at s word words (judge-by s word e)
