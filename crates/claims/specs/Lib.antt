@@ -1,4 +1,5 @@
 pub mod Refused
+pub mod Wrong
 pub mod Tables
 pub mod Order
 pub mod OrderLaws
@@ -9,6 +10,7 @@ pub mod Grammar
 pub mod Layout
 pub mod NothingLost
 pub mod FirstWrong
+pub mod WrongLaws
 pub mod LayoutLaws
 pub mod AcceptedLaws
 pub mod PassLaws
