@@ -16,6 +16,7 @@ pub mod AcceptedLaws
 pub mod PassLaws
 pub mod GrammarLaws
 pub mod ParseLaws
+pub mod EndsLaws
 pub mod ExactLaws
 pub mod Run
 pub mod WrittenLaws

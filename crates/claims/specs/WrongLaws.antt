@@ -30,12 +30,12 @@ use Rattle.claims.specs.Wrong.{questions, stepNumber, Right, onto, Upto,
 -- ---- one word
 
 -- what a run does at a word: the block ends before it, it is wrong, or it stands and the run goes on behind it
-data At (s : Scan) (w : ℕ) (ws : List ℕ) : Type 0 where
+pub data At (s : Scan) (w : ℕ) (ws : List ℕ) : Type 0 where
   ends : isEnd (formAt s w) ≡ true → readFrom s (w ∷ ws) ≡ just (Whole (s .place)) → At s w ws
   stops : (n : ℕ) → FirstIs (questions s (w ∷ ws)) n → (n ≡ 0 → ⊥) → readFrom s (w ∷ ws) ≡ just (Broken n (s .place)) → At s w ws
   goes : Right s w → readFrom s (w ∷ ws) ≡ then (itemFrom (formAt s w) w) (readFrom (onto s w) ws) → At s w ws
 
-at : (s : Scan) (w : ℕ) (ws : List ℕ) → At s w ws
+pub at : (s : Scan) (w : ℕ) (ws : List ℕ) → At s w ws
 unfolding readFrom judgeAt stepAt refusalOf
 at s w ws = go (isEnd f) refl (eqb (refusalOf s f w) 0) refl
   where
