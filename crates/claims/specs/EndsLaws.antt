@@ -1,7 +1,7 @@
 -- Where a block ends: behind its trailer, by the fillers that may still come and the word that follows. Assumes nothing.
 use Prim.Native.Nat.{ℕ, zero, suc, _-_, _<_}
 use mathlib.Core.Path.{_≡_, refl, sym, ap, _∙_, subst}
-use mathlib.Core.Bool.{Bool, true, false, cond, _&&_, true≢false}
+use mathlib.Core.Bool.{Bool, true, false, cond, true≢false}
 use mathlib.Core.List.{List, [], _∷_, _++_, map}
 use native.Mathlib.Omega.{arith}
 use borrow.Author.Tests.{eqb-true, eqb-false, eq-eqb}
@@ -12,18 +12,16 @@ use Rattle.fields.specs.Word.{read}
 use Rattle.fields.specs.WordLaws.{field-lt}
 use Rattle.fields.specs.Tag.{isDefining}
 use Rattle.frame.specs.declared.filler.Filler.{Filler}
-use Rattle.items.specs.declared.Form.{Form}
 use Rattle.items.specs.declared.Form.the-variants as F
 use Rattle.items.specs.declared.Item.{Item}
 use Rattle.items.specs.declared.Item.the-variants as I
-use Rattle.reader.specs.declared.Phase.{Phase}
 use Rattle.reader.specs.declared.Phase.the-variants as P
 use Rattle.reader.specs.declared.Scan.{Scan}
-use Rattle.reader.specs.Reader.{mostFillers, formIn, formAt, isEnd, atLimit, filled, after, stepAt, judgeAt, startOf, Whole, Broken, endOf, Reading, then, just, readFrom}
+use Rattle.reader.specs.Reader.{formIn, formAt, isEnd, atLimit, filled, after, stepAt, judgeAt, startOf, Whole, Broken, endOf, Reading, just, readFrom}
 use Rattle.claims.specs.LayoutLaws.{behind}
 use Rattle.claims.specs.Wrong.{onto}
 use Rattle.claims.specs.WrongLaws.{At, ends, stops, goes, at}
-use Rattle.claims.specs.Grammar.{BlockTree, Tree, block, empty, bodyOf, recordsOf, TreeOk, NoFiller, Ends, third, no-filler, one-word}
+use Rattle.claims.specs.Grammar.{Tree, block, empty, bodyOf, recordsOf, TreeOk, NoFiller, Ends, third, no-filler, one-word}
 
 -- ---- how many fillers may still come behind a tree's records
 

@@ -75,7 +75,7 @@ read-spelt s [] (w ∷ us) rest h p e = absurd p
 read-spelt s (x ∷ xs) [] rest h p e = absurd p
 read-spelt s (x ∷ xs) (w ∷ us) rest h p e = read-step s x w (us ++ rest) (says-clean x w (h .0 .widths) (p .0)) (h .0) ∙ ap (then x) (read-spelt (after s x) xs us rest (h .1) (p .1) e)
 
-spelt-length : (xs : List Item) (ws : List ℕ) → Spelt xs ws → length xs ≡ length ws
+pub spelt-length : (xs : List Item) (ws : List ℕ) → Spelt xs ws → length xs ≡ length ws
 spelt-length [] [] p = refl
 spelt-length [] (w ∷ ws) p = absurd p
 spelt-length (x ∷ xs) [] p = absurd p
@@ -124,7 +124,7 @@ accepted-exactly ws n a = (accepted-front ws n a, λ f. ap (λ (r : Reading). r 
 pub accepted-tree : (ws : List ℕ) → AllWords ws → (readFrom startOf ws) .out ≡ Whole (length ws) → SpeltTree ws
 accepted-tree ws a e = subst SpeltTree (take-length ws) (accepted-front ws (length ws) a e .first)
 
-alone : (t : Tree) → Ends t []
+pub alone : (t : Tree) → Ends t []
 alone (block b) = no-filler tt
 alone (empty r) = one-word
 

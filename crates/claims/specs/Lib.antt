@@ -26,4 +26,5 @@ pub mod ReadsLaws
 pub mod Runs
 pub mod BenchRuns
 pub mod CheckLaws
+pub mod FollowedLaws
 pub mod Unique

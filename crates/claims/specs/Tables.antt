@@ -17,7 +17,8 @@ use Rattle.finder.specs.declared.Answer as A
 use Rattle.items.specs.declared.Form.{Form}
 use Rattle.reader.specs.declared.Scan.{Scan}
 use Rattle.reader.specs.declared.Step.{Step}
-use Rattle.reader.specs.Reader.{formAt, isEnd, refusalOf, stepAt, endNumber}
+use Rattle.reader.specs.declared.Judged.{Judged}
+use Rattle.reader.specs.Reader.{formAt, isEnd, refusalOf, stepAt, judgeAt, endNumber}
 use Rattle.writer.specs.declared.State.{State}
 use Rattle.writer.specs.declared.Answer.{Answer}
 use Rattle.writer.specs.declared.Finished.{Finished}
@@ -25,7 +26,7 @@ use Rattle.writer.specs.State.{stateOk}
 use Rattle.writer.specs.Calls.{ifAccepted, setUpNumber, openBlockTable, openBlockNumber, openEventTable, openEventNumber, postTable, postNumber, closeTable, closeNumber, finishTable, finishNumber, SetUpSays, OpenBlockSays, OpenEventSays, PostSays, CloseSays, FinishSays}
 use Rattle.writer.specs.CallsLaws.{done}
 use Rattle.writer.specs.StateLaws.{set-up-kept, open-block-kept, open-event-kept, post-kept, closing-kept, finish-kept}
-use Rattle.claims.specs.Wrong.{questions, stepNumber}
+use Rattle.claims.specs.Wrong.{questions, stepNumber, judgedNumber}
 
 -- ---- in the paper's order
 
@@ -120,18 +121,27 @@ pub find-exactly : (s : Settings) (c : ℕ) (w : List ℕ) (r : A.Answer) → Fi
 unfolding findNumber
 find-exactly s c w r h = exactly _ (h .refusal)
 
--- what `step` answers of a word, from any scan
-pub step-exactly : (s : Scan) (word : ℕ) (words : List ℕ) (r : Step) → r ≡ stepAt s word → Exactly (questions s (word ∷ words)) (stepNumber r)
-unfolding stepAt refusalOf firstOf
-step-exactly s word words r e = exactly _ (ap stepNumber e ∙ go (isEnd f) refl (eqb (refusalOf s f word) 0) refl)
+-- a word, from any scan
+asked : (s : Scan) (word : ℕ) (words : List ℕ) → let n = firstOf (questions s (word ∷ words)) in (stepNumber (stepAt s word) ≡ n) × (judgedNumber (judgeAt s word) ≡ n)
+unfolding stepAt judgeAt refusalOf firstOf
+asked s word words = go (isEnd f) refl (eqb (refusalOf s f word) 0) refl
   where
     f : Form
     f = formAt s word
 
-    go : (a : Bool) → isEnd f ≡ a → (b : Bool) → eqb (refusalOf s f word) 0 ≡ b → stepNumber (stepAt s word) ≡ firstOf (questions s (word ∷ words))
-    go true h b z = rw h
-    go false h true z = rw (h, z) (sym (eqb-true _ 0 z))
-    go false h false z = rw (h, z)
+    go : (a : Bool) → isEnd f ≡ a → (b : Bool) → eqb (refusalOf s f word) 0 ≡ b
+        → let n = firstOf (questions s (word ∷ words)) in (stepNumber (stepAt s word) ≡ n) × (judgedNumber (judgeAt s word) ≡ n)
+    go true h b z = (rw h, rw h)
+    go false h true z = let o : 0 ≡ refusalOf s f word = sym (eqb-true _ 0 z) in (rw (h, z) o, rw (h, z) o)
+    go false h false z = (rw (h, z), rw (h, z))
+
+-- what `step` answers of it
+pub step-exactly : (s : Scan) (word : ℕ) (words : List ℕ) (r : Step) → r ≡ stepAt s word → Exactly (questions s (word ∷ words)) (stepNumber r)
+step-exactly s word words r e = exactly _ (ap stepNumber e ∙ asked s word words .0)
+
+-- what `judge` answers
+pub judge-exactly : (s : Scan) (word : ℕ) (words : List ℕ) (r : Judged) → r ≡ judgeAt s word → Exactly (questions s (word ∷ words)) (judgedNumber r)
+judge-exactly s word words r e = exactly _ (ap judgedNumber e ∙ asked s word words .1)
 
 -- what `at_end` answers of the input's end
 pub end-exactly : (s : Scan) (r : ℕ) → r ≡ endNumber s → Exactly (questions s []) r

@@ -11,6 +11,8 @@ use Rattle.items.specs.Items.{itemFrom}
 use Rattle.reader.specs.declared.Scan.{Scan}
 use Rattle.reader.specs.declared.Step.{Step}
 use Rattle.reader.specs.declared.Step.the-variants as S
+use Rattle.reader.specs.declared.Judged.{Judged}
+use Rattle.reader.specs.declared.Judged.the-variants as J
 use Rattle.reader.specs.Reader.{formAt, unfinished, atLimit, isEnd, refusals, after, startOf}
 use Rattle.records.specs.declared.answer.Record.{Record}
 use Rattle.records.specs.declared.answer.Next.the-variants as N
@@ -24,11 +26,16 @@ abbrev pub questions : Scan → List ℕ → List (ℕ × Bool)
 questions s [] = (14, atLimit s) ∷ (11, unfinished (s .phase)) ∷ []
 questions s (w ∷ ws) = cond (isEnd (formAt s w)) [] (refusals s (formAt s w) w)
 
--- the number in what `step` answers of a word, 0 where it has none
+-- the number in what `step` and `judge` answer of a word, 0 where it has none
 abbrev pub stepNumber : Step → ℕ
 stepNumber (S.Went f t) = 0
 stepNumber (S.Refused n) = n
 stepNumber S.Ended = 0
+
+abbrev pub judgedNumber : Judged → ℕ
+judgedNumber (J.Took x t) = 0
+judgedNumber (J.Refused n) = n
+judgedNumber J.Ended = 0
 
 -- ---- the first wrong word
 

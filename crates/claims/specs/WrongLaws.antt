@@ -17,15 +17,14 @@ use Rattle.items.specs.Items.{itemFrom}
 use Rattle.items.specs.declared.Form.{Form}
 use Rattle.items.specs.declared.Item.{Item}
 use Rattle.reader.specs.declared.Scan.{Scan}
-use Rattle.reader.specs.Reader.{formAt, isEnd, refusals, refusalOf, stepAt, judgeAt, startOf, Out, Whole, Broken, endOf, endNumber, outOf, Reading, then, just, readFrom, checkFrom}
+use Rattle.reader.specs.Reader.{formAt, isEnd, refusals, refusalOf, stepAt, judgeAt, startOf, Out, Whole, Broken, endNumber, outOf, Reading, then, just, readFrom, checkFrom}
 use Rattle.reader.specs.RunLaws.{before, check-reads, end-by}
-use Rattle.records.specs.declared.answer.Next.{Next}
 use Rattle.records.specs.declared.answer.Next.the-variants as N
-use Rattle.records.specs.Next.{nextFrom, nextAt}
+use Rattle.records.specs.Next.{nextAt}
 use Rattle.records.specs.NextLaws.{Taken, SaysNext, next-says}
 use Rattle.host.specs.Check.{numberOfOut, checkNumber}
 use Rattle.claims.specs.FirstWrong.{placeOf, place-counts, place-small, records-before}
-use Rattle.claims.specs.Wrong.{questions, stepNumber, Right, onto, Upto, here, on, WrongAt, WrongBy, CheckWrong, odd-length, wrong-word, NextWrong, refused, took}
+use Rattle.claims.specs.Wrong.{questions, Right, onto, Upto, here, on, WrongAt, WrongBy, CheckWrong, odd-length, wrong-word, NextWrong, refused, took}
 
 -- ---- one word
 
