@@ -1,4 +1,5 @@
 pub mod Refused
+pub mod Wrong
 pub mod Tables
 pub mod Order
 pub mod OrderLaws
@@ -9,11 +10,13 @@ pub mod Grammar
 pub mod Layout
 pub mod NothingLost
 pub mod FirstWrong
+pub mod WrongLaws
 pub mod LayoutLaws
 pub mod AcceptedLaws
 pub mod PassLaws
 pub mod GrammarLaws
 pub mod ParseLaws
+pub mod EndsLaws
 pub mod ExactLaws
 pub mod Run
 pub mod WrittenLaws
@@ -23,6 +26,7 @@ pub mod ReadsLaws
 pub mod Runs
 pub mod BenchRuns
 pub mod CheckLaws
+pub mod FollowedLaws
 pub mod Unique
 pub mod FieldEnds
 pub mod FieldEndsLaws
