@@ -20,6 +20,8 @@ pub mod WrittenLaws
 pub mod RunLaws
 pub mod Reads
 pub mod ReadsLaws
+pub mod Samples
+pub mod SamplesLaws
 pub mod Runs
 pub mod BenchRuns
 pub mod CheckLaws
