@@ -22,7 +22,8 @@ pub mod Reads
 pub mod ReadsLaws
 pub mod Samples
 pub mod SamplesLaws
+pub mod Bytes
+pub mod CheckLaws
 pub mod Runs
 pub mod BenchRuns
-pub mod CheckLaws
 pub mod Unique
