@@ -1,31 +1,24 @@
 -- Demand 2 over the C check: a block made by our calls, passed as bytes, gets its length as the number. Assumes nothing.
 use Prim.Native.Nat.{ℕ, zero, suc, _*_, _%_}
-use mathlib.Core.Path.{_≡_, refl, sym, ap, ap₂, _∙_}
+use mathlib.Core.Path.{_≡_, refl, ap, ap₂, _∙_}
 use mathlib.Core.Bool.{Bool, cond}
-use mathlib.Core.List.{List, [], _∷_, _++_}
+use mathlib.Core.List.{List, [], _∷_}
 use native.Mathlib.Omega.{arith}
 use borrow.Author.Tests.{eq-eqb}
 use lib.ListN.{length, take}
 use Rattle.settings.specs.Refusal.{numberOf}
-use Rattle.fields.specs.Bytes.{bytesOf, wordsOfBytes}
+use Rattle.fields.specs.Bytes.{wordsOfBytes}
 use Rattle.fields.specs.BytesLaws.{bytes-back}
 use Rattle.items.specs.declared.Item.{Item}
 use Rattle.reader.specs.Reader.{startOf, checkFrom}
-use Rattle.reader.specs.RunLaws.{check-reads}
 use Rattle.host.specs.Check.{numberOfOut, checkNumber}
 use Rattle.writer.specs.declared.State.{State}
 use Rattle.writer.specs.declared.Finished.{Finished}
 use Rattle.writer.specs.Calls.{FinishSays}
 use Rattle.claims.specs.NothingLost.{AllWords}
+use Rattle.claims.specs.Bytes.{bytesOfWords}
 use Rattle.claims.specs.Run.{Run}
 use Rattle.claims.specs.RunLaws.{run-checks}
-use Rattle.claims.specs.Runs.{runA}
-use Rattle.claims.specs.BenchRuns.{run-a-read}
-
--- "It passes a block as bytes, big-endian"
-abbrev pub bytesOfWords : List ℕ → List ℕ
-bytesOfWords [] = []
-bytesOfWords (w ∷ ws) = bytesOf w ++ bytesOfWords ws
 
 pub words-back : (ws : List ℕ) → AllWords ws → wordsOfBytes (bytesOfWords ws) ≡ ws
 words-back [] h = refl
@@ -53,8 +46,3 @@ pub run-checked : {s : State} {words : List ℕ} {xs : List Item} → Run s word
     → AllWords words′ → checkNumber (bytesOfWords (take (f .length) words′)) ≡ f .length
 run-checked run f words′ h e w =
     check-bytes (take (f .length) words′) (words-take (f .length) words′ w) ∙ ap numberOfOut (run-checks run f words′ h e)
-
--- run A's forty bytes
-pub run-a-checked : checkNumber (bytesOfWords runA) ≡ 10
-run-a-checked = check-bytes runA (omega arith, (omega arith, (omega arith, (omega arith, (omega arith, (omega arith, (omega arith, (omega arith, (omega arith, (omega arith, tt))))))))))
-    ∙ ap numberOfOut (sym (check-reads startOf runA) ∙ run-a-read .0)

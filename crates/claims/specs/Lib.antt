@@ -23,9 +23,12 @@ pub mod WrittenLaws
 pub mod RunLaws
 pub mod Reads
 pub mod ReadsLaws
+pub mod Samples
+pub mod SamplesLaws
+pub mod Bytes
+pub mod CheckLaws
 pub mod Runs
 pub mod BenchRuns
-pub mod CheckLaws
 pub mod FollowedLaws
 pub mod Unique
 pub mod FieldEnds

@@ -1,15 +1,26 @@
 -- Reading on with `next`, each call from the scan that the last one answered, to the block's end. Assumes nothing.
 use Prim.Native.Nat.{ℕ}
 use mathlib.Core.Path.{_≡_}
+use mathlib.Core.Bool.{false}
 use mathlib.Core.List.{List, [], _++_}
+use lib.ListN.{drop}
+use Rattle.items.specs.Items.{wordsOf}
 use Rattle.items.specs.declared.Item.{Item}
 use Rattle.reader.specs.Reader.{onward}
 use Rattle.reader.specs.declared.Scan.{Scan}
+use Rattle.records.specs.declared.answer.Pairs.{Pairs}
 use Rattle.records.specs.declared.answer.Record.{Record}
 use Rattle.records.specs.declared.answer.Next.the-variants as N
-use Rattle.records.specs.Next.{nextAt, Made}
+use Rattle.records.specs.Next.{nextAt, partOf, startsPair, Made, OfRaw}
+
+-- "a raw item carries place and pair count, and a second call gives that part of the caller's words": the words of its pairs, which are the items
+-- behind its head; what comes after them is no pair
+pub record PartRead (words : List ℕ) (items rest : List Item) (p : Pairs) : Type 0 where
+  pub part : partOf words p ≡ wordsOf (drop 1 items)
+  pub all : startsPair rest ≡ false
 
 -- from a scan on: the items of the records that `next` answers, one after the other, and the block's words
 pub data Reads (words : List ℕ) : Scan → List Item → ℕ → Type 0 where
   at-end : {s : Scan} (n : ℕ) → nextAt words s ≡ N.End n → Reads words s [] n
-  took : {s t : Scan} (r : Record) (items : List Item) {rest : List Item} {n : ℕ} → nextAt words s ≡ N.Took r t → Made (onward (s .place)) r items → Reads words t rest n → Reads words s (items ++ rest) n
+  took : {s t : Scan} (r : Record) (items : List Item) {rest : List Item} {n : ℕ} → nextAt words s ≡ N.Took r t → Made (onward (s .place)) r items → OfRaw r (PartRead words items rest)
+      → Reads words t rest n → Reads words s (items ++ rest) n

@@ -1,29 +1,36 @@
 -- Demand 2: "reading back a block made by our calls gives every field as written", record by record. Assumes nothing.
-use Prim.Native.Nat.{ℕ, zero, suc, _+_, _-_, _^_, _≤_, _<_}
-use mathlib.Core.Path.{_≡_, refl, sym, ap, _∙_, subst}
-use mathlib.Core.Bool.{true≢false}
-use mathlib.Core.List.{List, [], _∷_, _++_}
+use Prim.Native.Nat.{ℕ, zero, suc, _+_, _-_, _^_, _≤_, _<_, min}
+use mathlib.Core.Path.{_≡_, refl, sym, ap, ap₂, _∙_, subst}
+use mathlib.Core.Bool.{Bool, false, cond, true≢false}
+use mathlib.Core.List.{List, [], _∷_, _++_, map}
 use native.Mathlib.Omega.{arith}
-use lib.ListN.{length, take, drop, length-append}
+use borrow.Author.Tests.{le-leb}
+use lib.ListN.{length, take, drop, length-append, length-drop, length-map}
 use lib.Seq.{drop-drop}
 use Rattle.settings.specs.Refusal.{numberOf}
+use Rattle.frame.specs.Words.{empty, filler}
+use Rattle.raw.specs.declared.pair.SamplePair.{SamplePair}
+use Rattle.items.specs.Items.{wordOf, wordsOf, formOf, cleanOf}
 use Rattle.items.specs.declared.Item.{Item}
-use Rattle.reader.specs.Reader.{Whole, Broken, Out, startOf, Reading, readFrom}
+use Rattle.items.specs.declared.Item.the-variants as I
+use Rattle.reader.specs.Reader.{onward, Whole, Broken, Out, startOf, Reading, readFrom}
 use Rattle.reader.specs.RunLaws.{before}
 use Rattle.reader.specs.declared.Scan.{Scan}
+use Rattle.records.specs.declared.answer.Pairs.{Pairs}
 use Rattle.records.specs.declared.answer.Record.{Record}
 use Rattle.records.specs.declared.answer.Record.the-variants as R
 use Rattle.records.specs.declared.answer.Next.{Next}
 use Rattle.records.specs.declared.answer.Next.the-variants as N
-use Rattle.records.specs.Next.{Made, nextFrom, nextAt}
+use Rattle.records.specs.Next.{mostCount, partOf, startsPair, PairsMade, Made, OfRaw, nextFrom, nextAt}
 use Rattle.records.specs.NextLaws.{SaysNext, next-says}
 use Rattle.writer.specs.declared.State.{State}
 use Rattle.writer.specs.declared.Finished.{Finished}
 use Rattle.writer.specs.Calls.{endItems, FinishSays}
+use Rattle.claims.specs.NothingLost.{AllWords, Spell, nothing-lost}
 use Rattle.claims.specs.FirstWrong.{placeOf, place-counts, place-small}
 use Rattle.claims.specs.Run.{Run}
 use Rattle.claims.specs.RunLaws.{run-reads-back}
-use Rattle.claims.specs.Reads.{Reads, at-end, took}
+use Rattle.claims.specs.Reads.{PartRead, Reads, at-end, took}
 
 -- ---- a record is made of one item at least
 
@@ -47,6 +54,86 @@ made-some place (R.Trailer r) items m = one-item _ _ m
 made-some place (R.Fillers slot n) items m = m .some
 made-some place (R.Empty r) items m = one-item _ _ m
 
+-- ---- the part of a raw item
+
+-- a record's word as it is written has no undefined bit set
+clean-word : (x : Item) → wordOf x ≡ cleanOf (formOf x) (wordOf x)
+unfolding wordOf empty filler
+clean-word (I.Block r) = refl
+clean-word (I.Parameters r) = refl
+clean-word (I.Trailer r) = refl
+clean-word (I.Event r) = refl
+clean-word (I.Clock r) = refl
+clean-word (I.ClockHigh r) = refl
+clean-word (I.Window r) = refl
+clean-word (I.Raw r) = refl
+clean-word (I.Pair r) = refl
+clean-word (I.Integral r) = refl
+clean-word (I.Time r) = refl
+clean-word (I.Pedestal r) = refl
+clean-word (I.Empty r) = omega arith
+clean-word (I.Filler r) = omega arith
+
+spell-words : (xs : List Item) → Spell xs (wordsOf xs)
+spell-words [] = tt
+spell-words (x ∷ xs) = (clean-word x, spell-words xs)
+
+spell-drop : (xs ys : List Item) (ws : List ℕ) → Spell (xs ++ ys) ws → Spell ys (drop (length xs) ws)
+spell-drop [] ys ws h = h
+spell-drop (x ∷ xs) ys [] h = absurd h
+spell-drop (x ∷ xs) ys (w ∷ ws) h = spell-drop xs ys ws (h .1)
+
+spell-long : (xs : List Item) (ws : List ℕ) → Spell xs ws → length xs ≤ length ws
+spell-long [] ws h = omega arith
+spell-long (x ∷ xs) [] h = absurd h
+spell-long (x ∷ xs) (w ∷ ws) h = omega (arith, spell-long xs ws (h .1))
+
+spell-pairs : (ps : List SamplePair) (rest : List Item) (ws : List ℕ) → Spell (map (λ x. I.Pair x) ps ++ rest) ws → take (length ps) ws ≡ wordsOf (map (λ x. I.Pair x) ps)
+spell-pairs [] rest ws h = refl
+spell-pairs (p ∷ ps) rest [] h = absurd h
+spell-pairs (p ∷ ps) rest (w ∷ ws) h = ap₂ (λ (v : ℕ) (l : List ℕ). v ∷ l) (sym (h .0)) (spell-pairs ps rest ws (h .1))
+
+-- it lies in the words, from the place behind the head on
+part-words : (words : List ℕ) (place : ℕ) (head : Item) (ps : List SamplePair) (rest : List Item) (p : Pairs) → p .place ≡ onward place → p .count ≡ min (length ps) mostCount
+    → place + length ps + 1 < 2 ^ 32 - 1 → Spell (head ∷ (map (λ x. I.Pair x) ps ++ rest)) (drop place words) → partOf words p ≡ wordsOf (map (λ x. I.Pair x) ps)
+unfolding partOf onward
+part-words words place head ps rest p at many small h =
+    let k : p .place ≡ place + 1 = omega (arith, at) in
+    let n : p .count ≡ length ps = omega (arith, many) in
+    let pairs : List Item = map (λ x. I.Pair x) ps in
+    let m : length pairs ≡ length ps = length-map ps (λ x. I.Pair x) in
+    let l : p .place + p .count ≤ length words = omega (arith, k, n, m, spell-long (head ∷ (pairs ++ rest)) (drop place words) h, length-append pairs rest, length-drop place words) in
+    let e : drop (p .place) words ≡ drop 1 (drop place words) = ap (λ (i : ℕ). drop i words) k ∙ sym (drop-drop 1 place words) in
+    ap (λ (b : Bool). cond b (take (p .count) (drop (p .place) words)) []) (le-leb (p .place + p .count) (length words) l)
+    ∙ (ap₂ (λ (i : ℕ) (ws : List ℕ). take i ws) n e ∙ spell-pairs ps rest (drop 1 (drop place words)) (spell-drop (head ∷ []) (pairs ++ rest) (drop place words) h))
+
+-- what is said of a raw item from how it is made
+of-raw : (place : ℕ) (r : Record) (items : List Item) (P Q : Pairs → Type 0) → Made place r items → OfRaw r P → ((head : Item) (p : Pairs) → PairsMade head place p items → P p → Q p) → OfRaw r Q
+of-raw place (R.Block r) items P Q m o f = tt
+of-raw place (R.Parameters r) items P Q m o f = tt
+of-raw place (R.Event r) items P Q m o f = tt
+of-raw place (R.Time27 r) items P Q m o f = tt
+of-raw place (R.Time48 r high) items P Q m o f = tt
+of-raw place (R.TimeHigh r) items P Q m o f = tt
+of-raw place (R.Window r p) items P Q m o f = f (I.Window r) p m o
+of-raw place (R.Raw r p) items P Q m o f = f (I.Raw r) p m o
+of-raw place (R.Pair r) items P Q m o f = tt
+of-raw place (R.Integral r) items P Q m o f = tt
+of-raw place (R.Time r) items P Q m o f = tt
+of-raw place (R.Pedestal r) items P Q m o f = tt
+of-raw place (R.Trailer r) items P Q m o f = tt
+of-raw place (R.Fillers slot n) items P Q m o f = tt
+of-raw place (R.Empty r) items P Q m o f = tt
+
+part-read : (words : List ℕ) (place : ℕ) (items rest : List Item) (head : Item) (p : Pairs) → place + length items < 2 ^ 32 - 1 → Spell (items ++ rest) (drop place words)
+    → PairsMade head (onward place) p items → startsPair rest ≡ false → PartRead words items rest p
+part-read words place items rest head p small h m stop =
+    let n : length items ≡ length (m .pairs) + 1 = ap length (m .all) ∙ omega (arith, length-map (m .pairs) (λ x. I.Pair x)) in
+    record {
+      part = part-words words place head (m .pairs) rest p (m .at) (m .many) (omega (arith, n)) (subst (λ (l : List Item). Spell (l ++ rest) (drop place words)) (m .all) h) ∙ sym (ap (λ (l : List Item). wordsOf (drop 1 l)) (m .all));
+      all = stop;
+    }
+
 -- ---- a whole run, record by record
 
 before-items : (xs : List Item) (r : Reading) → (before xs r) .items ≡ xs ++ r .items
@@ -58,10 +145,11 @@ before-out [] r = refl
 before-out (x ∷ xs) r = before-out xs r
 
 -- from any scan of the block, which ends below the largest place
-reads-from : (most : ℕ) (words : List ℕ) (s : Scan) (xs : List Item) (n : ℕ) → n < 2 ^ 32 - 1 → length xs < most → readFrom s (drop (s .place) words) ≡ record { items = xs; out = Whole n } → Reads words s xs n
+reads-from : (most : ℕ) (words : List ℕ) (s : Scan) (xs : List Item) (n : ℕ) → n < 2 ^ 32 - 1 → length xs < most → Spell xs (drop (s .place) words) → readFrom s (drop (s .place) words) ≡ record { items = xs; out = Whole n }
+    → Reads words s xs n
 unfolding nextAt
-reads-from zero words s xs n small h e = absurd (omega arith)
-reads-from (suc most) words s xs n small h e = go (nextFrom s (drop (s .place) words)) refl (next-says s (drop (s .place) words)) (λ t rest. reads-from most words t rest n small)
+reads-from zero words s xs n small h spell e = absurd (omega arith)
+reads-from (suc most) words s xs n small h spell e = go (nextFrom s (drop (s .place) words)) refl (next-says s (drop (s .place) words)) (λ t rest. reads-from most words t rest n small)
   where
     counted : (t : Scan) (ws : List ℕ) (ys : List Item) → readFrom t ws ≡ record { items = ys; out = Whole n } → n ≡ t .place + length ys
     counted t ws ys q =
@@ -70,7 +158,7 @@ reads-from (suc most) words s xs n small h e = go (nextFrom s (drop (s .place) w
         omega (arith, place-counts t ws (omega (arith, o)), o, l)
 
     go : (x : Next) → nextFrom s (drop (s .place) words) ≡ x → SaysNext s (drop (s .place) words) x
-        → ((t : Scan) (rest : List Item) → length rest < most → readFrom t (drop (t .place) words) ≡ record { items = rest; out = Whole n } → Reads words t rest n) → Reads words s xs n
+        → ((t : Scan) (rest : List Item) → length rest < most → Spell rest (drop (t .place) words) → readFrom t (drop (t .place) words) ≡ record { items = rest; out = Whole n } → Reads words t rest n) → Reads words s xs n
     go (N.Took r t) f k again =
         let on : Reading = readFrom t (drop (length (k .items)) (drop (s .place) words)) in
         let all : record { items = xs; out = Whole n } ≡ before (k .items) on = sym e ∙ k .run in
@@ -81,7 +169,11 @@ reads-from (suc most) words s xs n small h e = go (nextFrom s (drop (s .place) w
         let place : s .place + length (k .items) ≡ t .place = omega (arith, counted s _ xs e, counted t _ (on .items) rest, size) in
         let at : drop (length (k .items)) (drop (s .place) words) ≡ drop (t .place) words = drop-drop (length (k .items)) (s .place) words ∙ ap (λ (i : ℕ). drop i words) place in
         let some : 1 ≤ length (k .items) = made-some _ r (k .items) (k .made) in
-        subst (λ (l : List Item). Reads words s l n) (sym parts) (took r (k .items) f (k .made) (again t (on .items) (omega (arith, size, some)) (ap (readFrom t) (sym at) ∙ rest)))
+        let spelt : Spell (k .items ++ on .items) (drop (s .place) words) = subst (λ (l : List Item). Spell l (drop (s .place) words)) parts spell in
+        let part : OfRaw r (PartRead words (k .items) (on .items)) =
+        of-raw _ r (k .items) _ _ (k .made) (k .stop) (λ head p. part-read words (s .place) (k .items) (on .items) head p (omega (arith, size, counted s _ xs e)) spelt) in
+        let more : Spell (on .items) (drop (t .place) words) = subst (λ (l : List ℕ). Spell (on .items) l) at (spell-drop (k .items) (on .items) (drop (s .place) words) spelt) in
+        subst (λ (l : List Item). Reads words s l n) (sym parts) (took r (k .items) f (k .made) part (again t (on .items) (omega (arith, size, some)) more (ap (readFrom t) (sym at) ∙ rest)))
     go (N.End m) f k again =
         let none : [] ≡ xs = ap (λ (r : Reading). r .items) (sym k ∙ e) in
         let same : m ≡ n = ap (λ (r : Reading). placeOf (r .out)) (sym k ∙ e) in
@@ -90,11 +182,17 @@ reads-from (suc most) words s xs n small h e = go (nextFrom s (drop (s .place) w
         let both : Whole n ≡ Broken r place = sym (ap (λ (r : Reading). r .out) e) ∙ k in
         absurd (true≢false cc)
 
--- a run over words that ends whole is what `next` answers
-pub reads-whole : (words : List ℕ) (xs : List Item) (n : ℕ) → readFrom startOf words ≡ record { items = xs; out = Whole n } → Reads words startOf xs n
-reads-whole words xs n e = reads-from (suc (length xs)) words startOf xs n (omega (arith, place-small words, ap (λ (r : Reading). placeOf (r .out)) e)) (omega arith) e
+-- a run over words that ends whole is what `next` and `part` answer
+reads-spelt : (words : List ℕ) (xs : List Item) (n : ℕ) → Spell xs words → readFrom startOf words ≡ record { items = xs; out = Whole n } → Reads words startOf xs n
+reads-spelt words xs n spell e = reads-from (suc (length xs)) words startOf xs n (omega (arith, place-small words, ap (λ (r : Reading). placeOf (r .out)) e)) (omega arith) spell e
+
+-- whoever wrote them
+pub reads-whole : (words : List ℕ) (xs : List Item) (n : ℕ) → AllWords words → readFrom startOf words ≡ record { items = xs; out = Whole n } → Reads words startOf xs n
+reads-whole words xs n a e = reads-spelt words xs n (subst (λ (r : Reading). Spell (r .items) words) e (nothing-lost startOf words a)) e
 
 -- any run of calls, then an accepted finish: `next` gives the records as they were written, and the block's length
 pub run-next : {s : State} {words : List ℕ} {xs : List Item} → Run s words xs → (f : Finished) (words′ : List ℕ) → FinishSays s words f words′ → numberOf (f .refusal) ≡ 0
     → Reads (take (f .length) words′) startOf (xs ++ endItems (s .settings) (s .words)) (f .length)
-run-next run f words′ h e = reads-whole _ _ _ (run-reads-back run f words′ h e .read)
+run-next {s} {words} {xs} run f words′ h e =
+    let b = run-reads-back run f words′ h e in
+    reads-spelt _ _ _ (rw (b .written) (spell-words (xs ++ endItems (s .settings) (s .words)))) (b .read)

@@ -1,19 +1,67 @@
--- The bench's runs A and b to i, as rows of one table, and run A's block. Assumes nothing.
-use Prim.Native.Nat.{ℕ}
-use mathlib.Core.Bool.{true}
-use mathlib.Core.List.{List, [], _∷_}
-use lib.ListN.{length, set, replicate}
+-- The bench's runs A and b to i, as rows of one table, and what a row says. Assumes nothing.
+use Prim.Native.Nat.{ℕ, _-_, _*_}
+use Prim.Native.String.{String}
+use mathlib.Core.Path.{_≡_}
+use mathlib.Core.Bool.{Bool, true, cond}
+use mathlib.Core.List.{List, [], _∷_, _++_, map}
+use lib.Dec.{eqb}
+use lib.ListN.{length, getD, set, replicate}
 use Rattle.settings.specs.declared.Settings.{Settings}
-use Rattle.finder.specs.declared.Rule.{Rule}
-use Rattle.finder.specs.declared.Rule.the-variants.{Early, Late, Flat, Edge}
 use Rattle.finder.specs.declared.Pulse.{Pulse}
+use Rattle.finder.specs.Find as F
+use Rattle.finder.specs.Call.{findNumber, foundPulses}
+use Rattle.items.specs.declared.Item.{Item}
+use Rattle.items.specs.declared.Item.the-variants as I
+use Rattle.reader.specs.Reader.{Whole, startOf, readFrom}
+use Rattle.channel.specs.Channel.{commonOf, channelItems}
+use Rattle.event.specs.Event.{timeItems}
+use Rattle.writer.specs.declared.Answer.{Answer}
+use Rattle.writer.specs.declared.Finished.{Finished}
+use Rattle.writer.specs.Calls.{SetUpSays, blockItems, OpenBlockSays, OpenEventSays, PostSays, CloseSays, endItems, FinishSays}
+use Rattle.host.specs.Check.{checkNumber}
+use Rattle.listing.specs.Listing.{listingOf}
+use Rattle.claims.specs.Bytes.{bytesOfWords, bytesOfLines}
+use Rattle.claims.specs.Reads.{Reads}
 
--- a run: what is set and posted, and the pulses that must be found
+-- ---- a row
+
+-- a pulse: TC, its data set and sum, what its time is made of, the time, and the number of the rule that gave it
+pub record BenchPulse : Type 0 where
+  pub tc : ℕ
+  pub first : ℕ
+  pub last : ℕ
+  pub sum : ℕ
+  pub vmin : ℕ
+  pub vpeak : ℕ
+  pub vmid : ℕ
+  pub n1 : ℕ
+  pub coarse : ℕ
+  pub fine : ℕ
+  pub rule : ℕ
+
+-- a block of one event: its number, the event's number and time, the words that the calls leave, and the lines that the lister prints of them
+pub record BenchBlock : Type 0 where
+  pub number : ℕ
+  pub event : ℕ
+  pub time : ℕ
+  pub words : List ℕ
+  pub text : List String
+
+-- the paper gives a block for run A alone
+pub data InBlock : Type 0 where
+  not-given : InBlock
+  given : BenchBlock → InBlock
+
+-- a run: what is set and posted, the pulses that must be found, and the channel's records with their fields as written
 pub record BenchRun : Type 0 where
   pub settings : Settings
   pub channel : ℕ
   pub window : List ℕ
-  pub pulses : List Pulse
+  pub pulses : List BenchPulse
+  pub written : List Item
+  pub block : InBlock
+
+-- ---- the table
 
 -- "mode 7, slot 5, .. PL 20, parameters on, two time words, multiple 2", channel 3 at a threshold, the others at the highest
 unfoldable pub settingsOf : List ℕ → ℕ → ℕ → ℕ → ℕ → Settings
@@ -33,45 +81,145 @@ settingsOf w t nsb nsa limit =
     }
 
 -- what a run does not name is run A's
-abbrev run : List ℕ → ℕ → ℕ → ℕ → ℕ → List Pulse → BenchRun
-run w t nsb nsa limit pulses = record { settings = settingsOf w t nsb nsa limit; channel = 3; window = w; pulses = pulses }
+abbrev runIn : InBlock → List ℕ → ℕ → ℕ → ℕ → ℕ → List BenchPulse → List Item → BenchRun
+runIn block w t nsb nsa limit pulses written =
+    record { settings = settingsOf w t nsb nsa limit; channel = 3; window = w; pulses = pulses; written = written; block = block }
 
--- TC, first, last, sum, coarse, fine, VMIN, VPEAK and the rule
-abbrev pulse : ℕ → ℕ → ℕ → ℕ → ℕ → ℕ → ℕ → ℕ → Rule → Pulse
-pulse tc first last sum coarse fine vmin vpeak rule =
-    record { tc = tc; first = first; last = last; sum = sum; time = record { coarse = coarse; fine = fine; vmin = vmin; vpeak = vpeak; rule = rule } }
+abbrev run : List ℕ → ℕ → ℕ → ℕ → ℕ → List BenchPulse → List Item → BenchRun
+run w t nsb nsa limit pulses written = runIn not-given w t nsb nsa limit pulses written
+
+-- TC, first, last, sum, VMIN, VPEAK, VMID, N1, coarse, fine and the rule; VMID and N1 are 0 where the rule is not 4
+abbrev pulse : ℕ → ℕ → ℕ → ℕ → ℕ → ℕ → ℕ → ℕ → ℕ → ℕ → ℕ → BenchPulse
+pulse tc first last sum vmin vpeak vmid n1 coarse fine rule =
+    record { tc = tc; first = first; last = last; sum = sum; vmin = vmin; vpeak = vpeak; vmid = vmid; n1 = n1; coarse = coarse; fine = fine; rule = rule }
+
+-- the integral, time and pedestal of pulse i: quality, sum, coarse, fine, VMIN and VPEAK as written
+abbrev three : ℕ → ℕ → ℕ → ℕ → ℕ → ℕ → ℕ → List Item → List Item
+three i quality sum coarse fine vmin vpeak more =
+    I.Integral (record { channel = 3; pulse = i; quality = quality; sum = sum })
+    ∷ I.Time (record { channel = 3; pulse = i; quality = 0; coarse = coarse; fine = fine })
+    ∷ I.Pedestal (record { channel = 3; pulse = i; vmin = vmin; vpeak = vpeak })
+    ∷ more
 
 abbrev pub windowA : List ℕ
 windowA = 10 ∷ 11 ∷ 12 ∷ 11 ∷ 10 ∷ 40 ∷ 120 ∷ 200 ∷ 180 ∷ 90 ∷ 60 ∷ 30 ∷ 12 ∷ 11 ∷ 10 ∷ 11 ∷ []
 
+-- "block 1, one event number 9, time 256, .. the block is", and "The lister, fed those 40 bytes on standard input, prints"
+abbrev pub blockA : BenchBlock
+blockA =
+    record {
+      number = 1;
+      event = 9;
+      time = 256;
+      words =
+          0x81440101 ∷ 0x00500405 ∷ 0x91400009 ∷ 0x98000100 ∷ 0x00000000 ∷ 0xB98002BC ∷ 0xC18001B4 ∷ 0xD180B0C8 ∷ 0x89400009 ∷ 0xF9400000 ∷ [];
+      text =
+          "block\t5\t1\t1"
+          ∷ "setup\t20\t2\t5"
+          ∷ "event\t9"
+          ∷ "clock\t256"
+          ∷ "integral\t3\t0\t0\t700"
+          ∷ "time\t3\t0\t0\t6\t52"
+          ∷ "ped\t3\t0\t11\t200"
+          ∷ "end\t9"
+          ∷ "fill\t1"
+          ∷ [];
+    }
+
+-- A. "TC 7, set 5-11, sum 700, VMIN 11, VPEAK 200, VMID 105, N1 6, fine 52."
+abbrev pub runA : BenchRun
+runA = runIn (given blockA) windowA 100 2 5 3 (pulse 7 5 11 700 11 200 105 6 6 52 4 ∷ []) (three 0 0 700 6 52 11 200 [])
+
 unfoldable pub rows : List BenchRun
 rows =
-    -- A. "TC 7, set 5-11, sum 700, VMIN 11, VPEAK 200, VMID 105, N1 6, fine 52."
-    run windowA 100 2 5 3 (pulse 7 5 11 700 6 52 11 200 Edge ∷ [])
+    runA
     -- b. "V 100 at threshold 100: none; 101: pulse."
-    ∷ run (100 ∷ []) 100 2 5 3 []
-    ∷ run (101 ∷ []) 100 2 5 3 (pulse 1 1 1 101 1 0 0 0 Early ∷ [])
+    ∷ run (100 ∷ []) 100 2 5 3 [] []
+    ∷ run (101 ∷ []) 100 2 5 3 (pulse 1 1 1 101 0 0 0 0 1 0 1 ∷ []) (three 0 0 101 1 0 0 0 [])
     -- c. "Threshold 100, 150 50 150 50 150, NSA 2, limit 3: TC 1 and 5."
-    ∷ run (150 ∷ 50 ∷ 150 ∷ 50 ∷ 150 ∷ []) 100 0 2 3 (pulse 1 1 2 200 1 0 0 0 Early ∷ pulse 5 5 5 150 5 0 0 0 Early ∷ [])
+    ∷ run (150 ∷ 50 ∷ 150 ∷ 50 ∷ 150 ∷ []) 100 0 2 3
+    (pulse 1 1 2 200 0 0 0 0 1 0 1 ∷ pulse 5 5 5 150 0 0 0 0 5 0 1 ∷ [])
+    (three 0 0 200 1 0 0 0 (three 1 0 150 5 0 0 0 []))
     -- d. "NSA 1: TC 1, 3, 5; limit 2: 1, 3."
-    ∷ run (150 ∷ 50 ∷ 150 ∷ 50 ∷ 150 ∷ []) 100 0 1 3 (pulse 1 1 1 150 1 0 0 0 Early ∷ pulse 3 3 3 150 3 0 0 0 Early ∷ pulse 5 5 5 150 5 0 0 0 Early ∷ [])
-    ∷ run (150 ∷ 50 ∷ 150 ∷ 50 ∷ 150 ∷ []) 100 0 1 2 (pulse 1 1 1 150 1 0 0 0 Early ∷ pulse 3 3 3 150 3 0 0 0 Early ∷ [])
+    ∷ run (150 ∷ 50 ∷ 150 ∷ 50 ∷ 150 ∷ []) 100 0 1 3
+    (pulse 1 1 1 150 0 0 0 0 1 0 1 ∷ pulse 3 3 3 150 0 0 0 0 3 0 1 ∷ pulse 5 5 5 150 0 0 0 0 5 0 1 ∷ [])
+    (three 0 0 150 1 0 0 0 (three 1 0 150 3 0 0 0 (three 2 0 150 5 0 0 0 [])))
+    ∷ run (150 ∷ 50 ∷ 150 ∷ 50 ∷ 150 ∷ []) 100 0 1 2
+    (pulse 1 1 1 150 0 0 0 0 1 0 1 ∷ pulse 3 3 3 150 0 0 0 0 3 0 1 ∷ [])
+    (three 0 0 150 1 0 0 0 (three 1 0 150 3 0 0 0 []))
     -- e. "TC 2, NSB 3: set starts at 1."
-    ∷ run (10 ∷ 150 ∷ 20 ∷ []) 100 3 2 3 (pulse 2 1 3 180 2 0 0 0 Early ∷ [])
+    ∷ run (10 ∷ 150 ∷ 20 ∷ []) 100 3 2 3 (pulse 2 1 3 180 0 0 0 0 2 0 1 ∷ []) (three 0 0 180 2 0 0 0 [])
     -- f. "NW 16: TC 11 may be timed, TC 12 is TC only."
-    ∷ run (10 ∷ 10 ∷ 10 ∷ 10 ∷ 10 ∷ 10 ∷ 10 ∷ 10 ∷ 10 ∷ 10 ∷ 150 ∷ 200 ∷ 180 ∷ 90 ∷ 60 ∷ 30 ∷ []) 100 2 5 3 (pulse 11 9 15 700 10 43 10 200 Edge ∷ [])
-    ∷ run (10 ∷ 10 ∷ 10 ∷ 10 ∷ 10 ∷ 10 ∷ 10 ∷ 10 ∷ 10 ∷ 10 ∷ 10 ∷ 150 ∷ 200 ∷ 180 ∷ 90 ∷ 60 ∷ []) 100 2 5 3 (pulse 12 10 16 700 12 0 10 0 Late ∷ [])
+    ∷ run (10 ∷ 10 ∷ 10 ∷ 10 ∷ 10 ∷ 10 ∷ 10 ∷ 10 ∷ 10 ∷ 10 ∷ 150 ∷ 200 ∷ 180 ∷ 90 ∷ 60 ∷ 30 ∷ []) 100 2 5 3
+    (pulse 11 9 15 700 10 200 105 10 10 43 4 ∷ [])
+    (three 0 0 700 10 43 10 200 [])
+    ∷ run (10 ∷ 10 ∷ 10 ∷ 10 ∷ 10 ∷ 10 ∷ 10 ∷ 10 ∷ 10 ∷ 10 ∷ 10 ∷ 150 ∷ 200 ∷ 180 ∷ 90 ∷ 60 ∷ []) 100 2 5 3
+    (pulse 12 10 16 700 10 0 0 0 12 0 2 ∷ [])
+    (three 0 0 700 12 0 10 0 [])
     -- g. "Rise then flat 200 to the end: VPEAK 0, VMIN measured. 200 200 180: VPEAK 200."
-    ∷ run (10 ∷ 10 ∷ 10 ∷ 10 ∷ 10 ∷ 150 ∷ 200 ∷ 200 ∷ 200 ∷ 200 ∷ 200 ∷ 200 ∷ 200 ∷ 200 ∷ 200 ∷ 200 ∷ []) 100 2 5 3 (pulse 6 4 10 970 6 0 10 0 Flat ∷ [])
-    ∷ run (10 ∷ 10 ∷ 10 ∷ 10 ∷ 10 ∷ 150 ∷ 200 ∷ 200 ∷ 180 ∷ 10 ∷ 10 ∷ 10 ∷ 10 ∷ 10 ∷ 10 ∷ 10 ∷ []) 100 2 5 3 (pulse 6 4 10 760 5 43 10 200 Edge ∷ [])
-    -- h. "128 samples of 4,095: 524,160, quality 0; 129: 524,287, quality 1." The sum before the cap
-    ∷ run (replicate 128 4095) 100 2 511 1 (pulse 1 1 128 524160 1 0 0 0 Early ∷ [])
-    ∷ run (replicate 129 4095) 100 2 511 1 (pulse 1 1 129 528255 1 0 0 0 Early ∷ [])
-    -- i. "VMIN 511 and 512 both written 511." As measured
-    ∷ run (511 ∷ 511 ∷ 511 ∷ 511 ∷ 10 ∷ 10 ∷ 10 ∷ 10 ∷ 600 ∷ 800 ∷ 700 ∷ 5 ∷ 5 ∷ 5 ∷ 5 ∷ 5 ∷ []) 550 2 5 3 (pulse 9 7 13 2130 9 17 511 800 Edge ∷ [])
-    ∷ run (512 ∷ 512 ∷ 512 ∷ 512 ∷ 10 ∷ 10 ∷ 10 ∷ 10 ∷ 600 ∷ 800 ∷ 700 ∷ 5 ∷ 5 ∷ 5 ∷ 5 ∷ 5 ∷ []) 550 2 5 3 (pulse 9 7 13 2130 9 17 512 800 Edge ∷ [])
+    ∷ run (10 ∷ 10 ∷ 10 ∷ 10 ∷ 10 ∷ 150 ∷ 200 ∷ 200 ∷ 200 ∷ 200 ∷ 200 ∷ 200 ∷ 200 ∷ 200 ∷ 200 ∷ 200 ∷ []) 100 2 5 3
+    (pulse 6 4 10 970 10 0 0 0 6 0 3 ∷ [])
+    (three 0 0 970 6 0 10 0 [])
+    ∷ run (10 ∷ 10 ∷ 10 ∷ 10 ∷ 10 ∷ 150 ∷ 200 ∷ 200 ∷ 180 ∷ 10 ∷ 10 ∷ 10 ∷ 10 ∷ 10 ∷ 10 ∷ 10 ∷ []) 100 2 5 3
+    (pulse 6 4 10 760 10 200 105 5 5 43 4 ∷ [])
+    (three 0 0 760 5 43 10 200 [])
+    -- h. "128 samples of 4,095: 524,160, quality 0; 129: 524,287, quality 1." The pulse has the sum before the cap
+    ∷ run (replicate 128 4095) 100 2 511 1 (pulse 1 1 128 524160 0 0 0 0 1 0 1 ∷ []) (three 0 0 524160 1 0 0 0 [])
+    ∷ run (replicate 129 4095) 100 2 511 1 (pulse 1 1 129 528255 0 0 0 0 1 0 1 ∷ []) (three 0 1 524287 1 0 0 0 [])
+    -- i. "VMIN 511 and 512 both written 511." The pulse has VMIN as measured
+    ∷ run (511 ∷ 511 ∷ 511 ∷ 511 ∷ 10 ∷ 10 ∷ 10 ∷ 10 ∷ 600 ∷ 800 ∷ 700 ∷ 5 ∷ 5 ∷ 5 ∷ 5 ∷ 5 ∷ []) 550 2 5 3
+    (pulse 9 7 13 2130 511 800 655 9 9 17 4 ∷ [])
+    (three 0 0 2130 9 17 511 800 [])
+    ∷ run (512 ∷ 512 ∷ 512 ∷ 512 ∷ 10 ∷ 10 ∷ 10 ∷ 10 ∷ 600 ∷ 800 ∷ 700 ∷ 5 ∷ 5 ∷ 5 ∷ 5 ∷ 5 ∷ []) 550 2 5 3
+    (pulse 9 7 13 2130 512 800 656 9 9 17 4 ∷ [])
+    (three 0 0 2130 9 17 511 800 [])
     ∷ []
 
--- "the block is: 81440101 00500405 91400009 98000100 00000000 B98002BC C18001B4 D180B0C8 89400009 F9400000"
-abbrev pub runA : List ℕ
-runA = 2168717569 ∷ 5243909 ∷ 2436890633 ∷ 2550137088 ∷ 0 ∷ 3112174268 ∷ 3246391732 ∷ 3514872008 ∷ 2302672905 ∷ 4181721088 ∷ []
+-- ---- what a row says
+
+-- a pulse that the finder found in a window, as the bench gives it
+unfoldable pub asBench : List ℕ → Pulse → BenchPulse
+asBench w p =
+    let edge : Bool = eqb (F.ruleNumber (p .time .rule)) 4 in
+    let mid : ℕ = F.vmid (p .time .vpeak) (p .time .vmin) in
+    pulse (p .tc) (p .first) (p .last) (p .sum) (p .time .vmin) (p .time .vpeak) (cond edge mid 0) (cond edge (F.n1 w mid (F.firstFall w (p .tc) - 1)) 0) (p .time .coarse) (p .time .fine)
+    (F.ruleNumber (p .time .rule))
+
+-- the six calls, each from the state and the buffers that the one before left; the store and the word buffer are as long as they must be, all zero
+pub record CallsOf (r : BenchRun) (k : BenchBlock) (a b c d e : Answer) (f : Finished) (store words words′ words″ : List ℕ) : Type 0 where
+  pub setUp : SetUpSays (r .settings) a
+  pub openBlock : OpenBlockSays (a .state) (replicate (length (k .words)) 0) (k .number) 1 b words
+  pub openEvent : OpenEventSays (b .state) (k .event) (k .time) c
+  pub post : PostSays (c .state) (replicate (16 * r .settings .nw) 0) (r .channel) (r .window) d store
+  pub close : CloseSays (d .state) store words e words′
+  pub finish : FinishSays (e .state) words′ f words″
+
+-- the block's records: its head, the event's, those of the channel, its end
+abbrev pub recordsOf : BenchRun → BenchBlock → List Item
+recordsOf r k =
+    let s : Settings = r .settings in
+    let front : List Item = blockItems s (k .number) 1 ++ (I.Event (record { slot = s .slot; number = k .event }) ∷ (timeItems (s .times) (k .time) ++ r .written)) in
+    front ++ endItems s (length front)
+
+pub record BlockHolds (r : BenchRun) (k : BenchBlock) : Type 0 where
+  -- whatever the calls' statements allow: the words left, and the length that finish answers
+  pub called : {a b c d e : Answer} {f : Finished} {store words words′ words″ : List ℕ} → CallsOf r k a b c d e f store words words′ words″
+      → (words″ ≡ k .words) × (f .length ≡ length (k .words))
+  -- the reader takes the words, and answers every record as it was written, `next` too
+  pub taken : readFrom startOf (k .words) ≡ record { items = recordsOf r k; out = Whole (length (k .words)) }
+  pub answered : Reads (k .words) startOf (recordsOf r k) (length (k .words))
+  -- the C check of their bytes, and what the lister prints of these
+  pub checked : checkNumber (bytesOfWords (k .words)) ≡ length (k .words)
+  pub listed : listingOf (bytesOfWords (k .words)) ≡ bytesOfLines (k .text)
+
+abbrev pub IfGiven : BenchRun → InBlock → Type 0
+IfGiven r not-given = Unit {0}
+IfGiven r (given k) = BlockHolds r k
+
+pub record Holds (r : BenchRun) : Type 0 where
+  -- the finder: no refusal, and the pulses
+  pub accepted : findNumber (r .settings) (r .channel) (r .window) ≡ 0
+  pub found : map (asBench (r .window)) (foundPulses (r .settings) (r .channel) (r .window)) ≡ r .pulses
+  -- what the channel writes
+  pub writes : channelItems (commonOf (r .settings)) (getD (r .settings .thresholds) (r .channel) 0) (r .channel) (r .window) ≡ r .written
+  pub inBlock : IfGiven r (r .block)

@@ -4,7 +4,6 @@ use Prim.Native.Nat.{ℕ, _≤_}
 use mathlib.Core.Path.{_≡_, refl, sym, ap, _∙_}
 use mathlib.Core.Bool.{Bool, true, false, not, cond}
 use mathlib.Core.List.{List, [], _∷_, map}
-use borrow.Author.Tests.{eqb-true}
 use lib.Dec.{eqb}
 use lib.ListN.{length}
 use Rattle.ground.specs.Tests.{firstOf, FirstIs}
@@ -14,11 +13,10 @@ use Rattle.settings.specs.Ranges.{settingsOk}
 use Rattle.settings.specs.Refusal.{numberOf}
 use Rattle.finder.specs.Call.{findTable, findNumber, FindSays}
 use Rattle.finder.specs.declared.Answer as A
-use Rattle.items.specs.declared.Form.{Form}
 use Rattle.reader.specs.declared.Scan.{Scan}
 use Rattle.reader.specs.declared.Step.{Step}
 use Rattle.reader.specs.declared.Judged.{Judged}
-use Rattle.reader.specs.Reader.{formAt, isEnd, refusalOf, stepAt, judgeAt, endNumber}
+use Rattle.reader.specs.Reader.{formAt, isEnd, refusals, refusalOf, endNumber}
 use Rattle.reader.specs.Answers.{stepNumber, judgedNumber, numberAt, StepSays, JudgedSays}
 use Rattle.writer.specs.declared.State.{State}
 use Rattle.writer.specs.declared.Answer.{Answer}

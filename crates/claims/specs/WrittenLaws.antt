@@ -81,19 +81,19 @@ under-take zero w u = tt
 under-take (suc n) [] u = u
 under-take (suc n) (x ∷ w) u = (u .0, under-take n w (u .1))
 
-under-set : (w : List ℕ) (p : Pulse) → Under 8191 w → Under 8191 (setOf w p)
+pub under-set : (w : List ℕ) (p : Pulse) → Under 8191 w → Under 8191 (setOf w p)
 unfolding setOf
 under-set w p u = under-take (p .last + 1 - p .first) (drop (p .first - 1) w) (under-drop (p .first - 1) w u)
 
 -- n samples in pairs, after type 4 and after type 6
-abbrev PairsOk : ℕ → List SamplePair → Type 0
+abbrev pub PairsOk : ℕ → List SamplePair → Type 0
 PairsOk n ps = WindowPairs n ps × (length ps ≡ (n + 1) / 2) × (1 ≤ n → RawPairs ps)
 
 raw-first : (p : SamplePair) (n : ℕ) (ps : List SamplePair) → BothValid p → PairsOk n ps → RawPairs (p ∷ ps)
 raw-first p n [] b k = full b
 raw-first p n (q ∷ ps) b k = (b, k .2 (omega (arith, k .1)))
 
-pairs : (w : List ℕ) → Under 8191 w → TreeOf eachPair (PairsOk (length w)) (pairItems w)
+pub pairs : (w : List ℕ) → Under 8191 w → TreeOf eachPair (PairsOk (length w)) (pairItems w)
 unfolding fits R.pair
 pairs [] u = record { tree = []; fine = (tt, refl, λ l. absurd (omega arith)); are = refl; widths = tt }
 pairs (x ∷ []) u =

@@ -5,4 +5,3 @@ pub mod Says
 pub mod BlockLaws
 pub mod RoomLaws
 pub mod MostLaws
-pub mod RunLaws

@@ -179,3 +179,42 @@ Made place (R.Pedestal r) items = items ≡ I.Pedestal r ∷ []
 Made place (R.Trailer r) items = items ≡ I.Trailer r ∷ []
 Made place (R.Fillers slot n) items = FillersMade slot n items
 Made place (R.Empty r) items = items ≡ I.Empty r ∷ []
+
+-- a pair stands first
+abbrev pub isPair : Item → Bool
+isPair (I.Block r) = false
+isPair (I.Parameters r) = false
+isPair (I.Trailer r) = false
+isPair (I.Event r) = false
+isPair (I.Clock r) = false
+isPair (I.ClockHigh r) = false
+isPair (I.Window r) = false
+isPair (I.Raw r) = false
+isPair (I.Pair r) = true
+isPair (I.Integral r) = false
+isPair (I.Time r) = false
+isPair (I.Pedestal r) = false
+isPair (I.Empty r) = false
+isPair (I.Filler r) = false
+
+abbrev pub startsPair : List Item → Bool
+startsPair [] = false
+startsPair (x ∷ xs) = isPair x
+
+-- what is said of a raw item's place and count; of other records nothing
+abbrev pub OfRaw : Record → (Pairs → Type 0) → Type 0
+OfRaw (R.Block r) P = Unit {0}
+OfRaw (R.Parameters r) P = Unit {0}
+OfRaw (R.Event r) P = Unit {0}
+OfRaw (R.Time27 r) P = Unit {0}
+OfRaw (R.Time48 r high) P = Unit {0}
+OfRaw (R.TimeHigh r) P = Unit {0}
+OfRaw (R.Window r p) P = P p
+OfRaw (R.Raw r p) P = P p
+OfRaw (R.Pair r) P = Unit {0}
+OfRaw (R.Integral r) P = Unit {0}
+OfRaw (R.Time r) P = Unit {0}
+OfRaw (R.Pedestal r) P = Unit {0}
+OfRaw (R.Trailer r) P = Unit {0}
+OfRaw (R.Fillers slot n) P = Unit {0}
+OfRaw (R.Empty r) P = Unit {0}

@@ -5,7 +5,7 @@ use mathlib.Core.Bool.{Bool, true, false, cond, false≢true, _||_}
 use mathlib.Core.List.{List, [], _∷_, map}
 use native.Mathlib.Omega.{arith}
 use borrow.Author.Tests.{eqb-true, not-false}
-use lib.Dec.{eqb}
+use lib.Dec.{eqb, ltb}
 use lib.ListN.{length, drop, length-map}
 use Rattle.ground.specs.Tests.{firstOf}
 use Rattle.fields.specs.Word.{read}
@@ -15,12 +15,12 @@ use Rattle.frame.specs.declared.trigger_time.TriggerTime.{TriggerTime}
 use Rattle.raw.specs.Words.{windowOf, pulseRawOf, pairOf}
 use Rattle.raw.specs.declared.pair.SamplePair.{SamplePair}
 use Rattle.measures.specs.Words.{integralOf, timeOf, pedestalOf}
-use Rattle.items.specs.Items.{itemFrom}
+use Rattle.items.specs.Items.{itemFrom, typeOf}
 use Rattle.items.specs.declared.Form.{Form}
 use Rattle.items.specs.declared.Form.the-variants as F
 use Rattle.items.specs.declared.Item.{Item}
 use Rattle.items.specs.declared.Item.the-variants as I
-use Rattle.reader.specs.Reader.{mostPairs, moreIn, allowedIn, otherIn, formIn, formAt, isNo, isEnd, unfinished, filled, onward, after, stepAt, withItem, judgeAt, Whole, Broken, endOf, endNumber, just, then, Reading, readFrom, atLimit}
+use Rattle.reader.specs.Reader.{mostPairs, moreIn, inner, allowedIn, otherIn, formIn, formAt, isNo, isEnd, unfinished, filled, onward, after, stepAt, withItem, judgeAt, Whole, Broken, endOf, endNumber, just, then, Reading, readFrom, atLimit}
 use Rattle.reader.specs.ReaderLaws.{judge-by, Accepted, accepted, filler-tail}
 use Rattle.reader.specs.RunLaws.{before, read-at, end-by}
 use Rattle.reader.specs.declared.Phase.{Phase}
@@ -37,7 +37,7 @@ use Rattle.records.specs.declared.answer.Record.{Record}
 use Rattle.records.specs.declared.answer.Record.the-variants as R
 use Rattle.records.specs.declared.answer.Next.{Next}
 use Rattle.records.specs.declared.answer.Next.the-variants as N
-use Rattle.records.specs.Next.{mostCount, fillerAt, AllAre, PairsMade, Made, pairDue, onPair, pairsFrom, withPairs, onHigh, withHigh, timeFrom, onFiller, fillersFrom, recordFrom, onJudged, nextFrom}
+use Rattle.records.specs.Next.{mostCount, fillerAt, AllAre, PairsMade, Made, isPair, startsPair, OfRaw, pairDue, onPair, pairsFrom, withPairs, onHigh, withHigh, timeFrom, onFiller, fillersFrom, recordFrom, onJudged, nextFrom}
 
 -- ---- where a pair is due, only a pair is taken
 
@@ -76,6 +76,62 @@ pair-taken t word {f} {u} due e =
     let ok : isNo f ≡ false = a .off .1 .0 in
     let is : f ≡ F.Pair = sym (a .form) ∙ pair-form (t .phase) (read 31 31 word) (read 30 27 word) due (ap isNo (a .form) ∙ ok) in
     judge-by t word e ∙ ap (λ (g : Form). J.Took (itemFrom g word) u) is
+
+-- ---- where no pair is due, none is taken
+
+abbrev NonePair : List Form → ℕ → Type 0
+NonePair [] word = Unit {0}
+NonePair (f ∷ fs) word = (isPair (itemFrom f word) ≡ false) × NonePair fs word
+
+none-listed : (other : Form) (fs : List Form) (type word : ℕ) → isPair (itemFrom other word) ≡ false → NonePair fs word → isPair (itemFrom (formIn other fs type) word) ≡ false
+none-listed other [] type word h n = h
+none-listed other (f ∷ fs) type word h n = go (eqb type (typeOf f)) (none-listed other fs type word h (n .1))
+  where
+    go : (b : Bool) → isPair (itemFrom (formIn other fs type) word) ≡ false → isPair (itemFrom (cond b f (formIn other fs type)) word) ≡ false
+    go true r = n .0
+    go false r = r
+
+none-form : (p : Phase) (b : Bool) (type word : ℕ) → pairDue p b ≡ false → isPair (itemFrom (cond b (moreIn p) (formIn (otherIn p) (allowedIn p) type)) word) ≡ false
+none-form P.Start true type word due = refl
+none-form P.Start false type word due = none-listed F.No (allowedIn P.Start) type word refl (refl, (refl, tt))
+none-form P.Head true type word due = refl
+none-form P.Head false type word due = none-listed F.No (allowedIn P.Head) type word refl (refl, (refl, tt))
+none-form P.Front true type word due = refl
+none-form P.Front false type word due = none-listed F.No (allowedIn P.Front) type word refl (refl, (refl, tt))
+none-form P.Opened true type word due = refl
+none-form P.Opened false type word due = none-listed F.No (allowedIn P.Opened) type word refl (refl, (refl, (refl, (refl, (refl, (refl, (refl, (refl, tt))))))))
+none-form (P.Timed d) true type word due = refl
+none-form (P.Timed d) false type word due = none-listed F.No inner type word refl (refl, (refl, (refl, (refl, (refl, (refl, (refl, tt)))))))
+none-form P.Items true type word due = refl
+none-form P.Items false type word due = none-listed F.No inner type word refl (refl, (refl, (refl, (refl, (refl, (refl, (refl, tt)))))))
+none-form (P.Window n odd) b type word due = absurd (false≢true (sym due))
+none-form (P.Raw n) true type word due = absurd (false≢true (sym (always (eqb n mostPairs) due)))
+  where
+    always : (a : Bool) → a || true ≡ false → true ≡ false
+    always true h = h
+    always false h = h
+none-form (P.Raw n) false type word due = none-listed F.No (cond (ltb n mostPairs) inner []) type word refl (go (ltb n mostPairs))
+  where
+    go : (b : Bool) → NonePair (cond b inner []) word
+    go true = (refl, (refl, (refl, (refl, (refl, (refl, (refl, tt)))))))
+    go false = tt
+none-form (P.Tail n) true type word due = refl
+none-form (P.Tail n) false type word due = none-listed F.End (cond (eqb n 0) [] (F.Filler ∷ [])) type word refl (go (eqb n 0))
+  where
+    go : (b : Bool) → NonePair (cond b [] (F.Filler ∷ [])) word
+    go true = tt
+    go false = (refl, tt)
+
+none-taken : (t : Scan) (word : ℕ) (words : List ℕ) → pairDue (t .phase) (isContinuation word) ≡ false → startsPair ((readFrom t (word ∷ words)) .items) ≡ false
+unfolding formAt isContinuation
+none-taken t word words due = go (stepAt t word) refl
+  where
+    go : (y : Step) → stepAt t word ≡ y → startsPair ((readFrom t (word ∷ words)) .items) ≡ false
+    go (S.Went f u) e =
+        ap (λ (x : Reading). startsPair (x .items)) (read-at t word words (judge-by t word e))
+        ∙ (ap (λ (g : Form). isPair (itemFrom g word)) (sym (accepted t word e .form)) ∙ none-form (t .phase) (eqb (read 31 31 word) 0) (read 30 27 word) word due)
+    go (S.Refused n) e = ap (λ (x : Reading). startsPair (x .items)) (read-at t word words (judge-by t word e))
+    go S.Ended e = ap (λ (x : Reading). startsPair (x .items)) (read-at t word words (judge-by t word e))
 
 -- ---- behind the trailer, only a filler of the block's slot is taken
 
@@ -145,18 +201,19 @@ onward-add : (n k m : ℕ) → m ≡ min (onward n + k) mostCount → m ≡ min 
 unfolding onward
 onward-add n k m e = omega arith
 
--- pairs in a row, then the run from u
+-- all pairs in a row, then the run from u
 record Paired (t : Scan) (words : List ℕ) (n m : ℕ) (u : Scan) : Type 0 where
   pairs : List SamplePair
   many : m ≡ min (n + length pairs) mostCount
   run : readFrom t words ≡ before (map (λ x. I.Pair x) pairs) (readFrom u (drop (length pairs) words))
+  stop : startsPair ((readFrom u (drop (length pairs) words)) .items) ≡ false
 
 abbrev SaysPairs : Scan → ℕ → List ℕ → Pairing → Type 0
 SaysPairs t n words (G.All m u) = Paired t words n m u
 SaysPairs t n words (G.Bad r at) = (readFrom t words) .out ≡ Broken r at
 
-no-pair : (t : Scan) (n : ℕ) (words : List ℕ) → n ≤ mostCount → Paired t words n n t
-no-pair t n words h = record { pairs = []; many = omega arith; run = refl }
+no-pair : (t : Scan) (n : ℕ) (words : List ℕ) → n ≤ mostCount → startsPair ((readFrom t words) .items) ≡ false → Paired t words n n t
+no-pair t n words h stop = record { pairs = []; many = omega arith; run = refl; stop = stop }
 
 due-unfinished : (p : Phase) (b : Bool) → pairDue p b ≡ true → unfinished p ≡ true
 due-unfinished P.Start b due = refl
@@ -183,7 +240,7 @@ pairs-say t n [] h = go (pairDue (t .phase) false) refl
   where
     go : (b : Bool) → pairDue (t .phase) false ≡ b → SaysPairs t n [] (cond b (G.Bad (endNumber t) (t .place)) (G.All n t))
     go true due = end-broken t (due-unfinished (t .phase) false due)
-    go false due = no-pair t n [] h
+    go false due = no-pair t n [] h refl
 pairs-say t n (word ∷ words) h = by-due (pairDue (t .phase) (isContinuation word)) refl (λ u. pairs-say u (onward n) words (onward-le n))
   where
     by-step : (y : Step) → stepAt t word ≡ y → pairDue (t .phase) (isContinuation word) ≡ true → ((u : Scan) → SaysPairs u (onward n) words (pairsFrom u (onward n) words)) → SaysPairs t n (word ∷ words) (onPair y t n (λ u. pairsFrom u (onward n) words))
@@ -198,14 +255,15 @@ pairs-say t n (word ∷ words) h = by-due (pairDue (t .phase) (isContinuation wo
               pairs = pairOf word ∷ a .pairs;
               many = onward-add n (length (a .pairs)) m (a .many);
               run = run ∙ ap (then (I.Pair (pairOf word))) (a .run);
+              stop = a .stop;
             }
         more (G.Bad k at) a = ap (λ (x : Reading). x .out) run ∙ a
     by-step (S.Refused k p) e due r = ap (λ (x : Reading). x .out) (read-at t word words (judge-by t word e))
-    by-step S.Ended e due r = no-pair t n (word ∷ words) h
+    by-step S.Ended e due r = no-pair t n (word ∷ words) h (ap (λ (x : Reading). startsPair (x .items)) (read-at t word words (judge-by t word e)))
 
     by-due : (b : Bool) → pairDue (t .phase) (isContinuation word) ≡ b → ((u : Scan) → SaysPairs u (onward n) words (pairsFrom u (onward n) words)) → SaysPairs t n (word ∷ words) (cond b (onPair (stepAt t word) t n (λ u. pairsFrom u (onward n) words)) (G.All n t))
     by-due true due r = by-step (stepAt t word) refl due r
-    by-due false due r = no-pair t n (word ∷ words) h
+    by-due false due r = no-pair t n (word ∷ words) h (none-taken t word words due)
 
 -- fillers in a row, then the run from the scan behind them
 record Filled (slot n : ℕ) (t : Scan) (words : List ℕ) (x : Next) : Type 0 where
@@ -250,6 +308,8 @@ pub record Taken (s : Scan) (words : List ℕ) (x : Record) (u : Scan) : Type 0 
   pub items : List Item
   pub made : Made (onward (s .place)) x items
   pub run : readFrom s words ≡ before items (readFrom u (drop (length items) words))
+  -- a raw item has all its pairs: none is left
+  pub stop : OfRaw x (λ p. startsPair ((readFrom u (drop (length items) words)) .items) ≡ false)
 
 abbrev pub SaysNext : Scan → List ℕ → Next → Type 0
 SaysNext s words (N.Took x u) = Taken s words x u
@@ -261,16 +321,17 @@ unfolding after
 place-after s t x e = ap (λ (y : Scan). y .place) e
 
 -- a record of one word
-one : (s t : Scan) (word : ℕ) (words : List ℕ) (x : Item) (y : Record) → Made (onward (s .place)) y (x ∷ []) → judgeAt s word ≡ J.Took x t → Taken s (word ∷ words) y t
-one s t word words x y m e = record { items = x ∷ []; made = m; run = read-at s word words e }
+one : (s t : Scan) (word : ℕ) (words : List ℕ) (x : Item) (y : Record) → Made (onward (s .place)) y (x ∷ []) → OfRaw y (λ p. startsPair ((readFrom t words) .items) ≡ false) → judgeAt s word ≡ J.Took x t
+    → Taken s (word ∷ words) y t
+one s t word words x y m stop e = record { items = x ∷ []; made = m; run = read-at s word words e; stop = stop }
 
 time-says : (s t : Scan) (word : ℕ) (words : List ℕ) (r : TriggerTime) → judgeAt s word ≡ J.Took (I.Clock r) t → SaysNext s (word ∷ words) (timeFrom r t words)
 unfolding timeFrom
-time-says s t word [] r e = one s t word [] (I.Clock r) (R.Time27 r) refl e
+time-says s t word [] r e = one s t word [] (I.Clock r) (R.Time27 r) refl tt e
 time-says s t word (next ∷ words) r e = by-judged (judgeAt t next) refl
   where
     alone : Taken s (word ∷ next ∷ words) (R.Time27 r) t
-    alone = one s t word (next ∷ words) (I.Clock r) (R.Time27 r) refl e
+    alone = one s t word (next ∷ words) (I.Clock r) (R.Time27 r) refl tt e
 
     by-judged : (j : Judged) → judgeAt t next ≡ j → SaysNext s (word ∷ next ∷ words) (onHigh j r t)
     by-judged (J.Took x u) f = by-item x f
@@ -286,6 +347,7 @@ time-says s t word (next ∷ words) r e = by-judged (judgeAt t next) refl
               items = I.Clock r ∷ I.ClockHigh high ∷ [];
               made = refl;
               run = read-at s word (next ∷ words) e ∙ ap (then (I.Clock r)) (read-at t next words f);
+              stop = tt;
             }
         by-item (I.Window x) f = alone
         by-item (I.Raw x) f = alone
@@ -299,8 +361,9 @@ time-says s t word (next ∷ words) r e = by-judged (judgeAt t next) refl
     by-judged J.Ended f = alone
 
 -- a raw item, by what its pairs say
-raw-says : (s t : Scan) (word : ℕ) (words : List ℕ) (head : Item) (make : Pairs → Record) → ((p : Pairs) (items : List Item) → PairsMade head (onward (s .place)) p items → Made (onward (s .place)) (make p) items) → t .place ≡ onward (s .place) → judgeAt s word ≡ J.Took head t → SaysNext s (word ∷ words) (withPairs make (t .place) (pairsFrom t 0 words))
-raw-says s t word words head make m at e = go (pairsFrom t 0 words) (pairs-say t 0 words (omega arith))
+raw-says : (s t : Scan) (word : ℕ) (words : List ℕ) (head : Item) (make : Pairs → Record) → ((p : Pairs) (items : List Item) → PairsMade head (onward (s .place)) p items → Made (onward (s .place)) (make p) items) → ((p : Pairs) (P : Pairs → Type 0) → P p → OfRaw (make p) P)
+    → t .place ≡ onward (s .place) → judgeAt s word ≡ J.Took head t → SaysNext s (word ∷ words) (withPairs make (t .place) (pairsFrom t 0 words))
+raw-says s t word words head make m o at e = go (pairsFrom t 0 words) (pairs-say t 0 words (omega arith))
   where
     run : readFrom s (word ∷ words) ≡ then head (readFrom t words)
     run = read-at s word words e
@@ -311,6 +374,7 @@ raw-says s t word words head make m at e = go (pairsFrom t 0 words) (pairs-say t
           items = head ∷ map (λ x. I.Pair x) (a .pairs);
           made = m _ _ (record { at = at; pairs = a .pairs; all = refl; many = omega (arith, a .many) });
           run = run ∙ ap (then head) (a .run ∙ rw (length-map (a .pairs) (λ x. I.Pair x)));
+          stop = o _ _ (rw (length-map (a .pairs) (λ x. I.Pair x)) (a .stop));
         }
     go (G.Bad r place) a = ap (λ (x : Reading). x .out) run ∙ a
 
@@ -325,6 +389,7 @@ fillers-make s t word words end a e =
       items = itemFrom F.Filler word ∷ c .items;
       made = record { some = omega arith; all = (refl, c .all); many = omega (arith, c .many) };
       run = read-at s word words e ∙ ap (then (itemFrom F.Filler word)) (c .run);
+      stop = tt;
     })
 
 -- for every scan and all words
@@ -338,19 +403,19 @@ next-says s [] = go (eqb (endNumber s) 0) refl
 next-says s (word ∷ words) = by-step (stepAt s word) refl
   where
     by-form : (f : Form) (t : Scan) → stepAt s word ≡ S.Went f t → Accepted s word f t → t .place ≡ onward (s .place) → SaysNext s (word ∷ words) (recordFrom (itemFrom f word) t words)
-    by-form F.Block t e a at = one s t word words (I.Block (blockHeaderOf word)) (R.Block (blockHeaderOf word)) refl (judge-by s word e)
-    by-form F.Parameters t e a at = one s t word words (I.Parameters (parametersOf word)) (R.Parameters (parametersOf word)) refl (judge-by s word e)
-    by-form F.Trailer t e a at = one s t word words (I.Trailer (trailerOf word)) (R.Trailer (trailerOf word)) refl (judge-by s word e)
-    by-form F.Event t e a at = one s t word words (I.Event (eventHeaderOf word)) (R.Event (eventHeaderOf word)) refl (judge-by s word e)
+    by-form F.Block t e a at = one s t word words (I.Block (blockHeaderOf word)) (R.Block (blockHeaderOf word)) refl tt (judge-by s word e)
+    by-form F.Parameters t e a at = one s t word words (I.Parameters (parametersOf word)) (R.Parameters (parametersOf word)) refl tt (judge-by s word e)
+    by-form F.Trailer t e a at = one s t word words (I.Trailer (trailerOf word)) (R.Trailer (trailerOf word)) refl tt (judge-by s word e)
+    by-form F.Event t e a at = one s t word words (I.Event (eventHeaderOf word)) (R.Event (eventHeaderOf word)) refl tt (judge-by s word e)
     by-form F.Clock t e a at = time-says s t word words (triggerTimeOf word) (judge-by s word e)
-    by-form F.ClockHigh t e a at = one s t word words (I.ClockHigh (triggerTimeHighOf word)) (R.TimeHigh (triggerTimeHighOf word)) refl (judge-by s word e)
-    by-form F.Window t e a at = raw-says s t word words (I.Window (windowOf word)) (λ p. R.Window (windowOf word) p) (λ p items m. m) at (judge-by s word e)
-    by-form F.Raw t e a at = raw-says s t word words (I.Raw (pulseRawOf word)) (λ p. R.Raw (pulseRawOf word) p) (λ p items m. m) at (judge-by s word e)
-    by-form F.Pair t e a at = one s t word words (I.Pair (pairOf word)) (R.Pair (pairOf word)) refl (judge-by s word e)
-    by-form F.Integral t e a at = one s t word words (I.Integral (integralOf word)) (R.Integral (integralOf word)) refl (judge-by s word e)
-    by-form F.Time t e a at = one s t word words (I.Time (timeOf word)) (R.Time (timeOf word)) refl (judge-by s word e)
-    by-form F.Pedestal t e a at = one s t word words (I.Pedestal (pedestalOf word)) (R.Pedestal (pedestalOf word)) refl (judge-by s word e)
-    by-form F.Empty t e a at = one s t word words (I.Empty (emptyOf word)) (R.Empty (emptyOf word)) refl (judge-by s word e)
+    by-form F.ClockHigh t e a at = one s t word words (I.ClockHigh (triggerTimeHighOf word)) (R.TimeHigh (triggerTimeHighOf word)) refl tt (judge-by s word e)
+    by-form F.Window t e a at = raw-says s t word words (I.Window (windowOf word)) (λ p. R.Window (windowOf word) p) (λ p items m. m) (λ p P x. x) at (judge-by s word e)
+    by-form F.Raw t e a at = raw-says s t word words (I.Raw (pulseRawOf word)) (λ p. R.Raw (pulseRawOf word) p) (λ p items m. m) (λ p P x. x) at (judge-by s word e)
+    by-form F.Pair t e a at = one s t word words (I.Pair (pairOf word)) (R.Pair (pairOf word)) refl tt (judge-by s word e)
+    by-form F.Integral t e a at = one s t word words (I.Integral (integralOf word)) (R.Integral (integralOf word)) refl tt (judge-by s word e)
+    by-form F.Time t e a at = one s t word words (I.Time (timeOf word)) (R.Time (timeOf word)) refl tt (judge-by s word e)
+    by-form F.Pedestal t e a at = one s t word words (I.Pedestal (pedestalOf word)) (R.Pedestal (pedestalOf word)) refl tt (judge-by s word e)
+    by-form F.Empty t e a at = one s t word words (I.Empty (emptyOf word)) (R.Empty (emptyOf word)) refl tt (judge-by s word e)
     by-form F.Filler t e a at = fillers-make s t word words (filler-tail s word (a .form)) a (judge-by s word e)
     by-form F.No t e a at = absurd (false≢true (sym (a .off .1 .0)))
     by-form F.End t e a at = absurd (false≢true (sym (a .here)))
