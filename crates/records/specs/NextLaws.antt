@@ -130,7 +130,7 @@ none-taken t word words due = go (stepAt t word) refl
     go (S.Went f u) e =
         ap (λ (x : Reading). startsPair (x .items)) (read-at t word words (judge-by t word e))
         ∙ (ap (λ (g : Form). isPair (itemFrom g word)) (sym (accepted t word e .form)) ∙ none-form (t .phase) (eqb (read 31 31 word) 0) (read 30 27 word) word due)
-    go (S.Refused n) e = ap (λ (x : Reading). startsPair (x .items)) (read-at t word words (judge-by t word e))
+    go (S.Refused n p) e = ap (λ (x : Reading). startsPair (x .items)) (read-at t word words (judge-by t word e))
     go S.Ended e = ap (λ (x : Reading). startsPair (x .items)) (read-at t word words (judge-by t word e))
 
 -- ---- behind the trailer, only a filler of the block's slot is taken
