@@ -45,9 +45,11 @@ use Rattle.writer.specs.declared.State.{State}
 use Rattle.writer.specs.Calls.{SetUpSays, OpenBlockSays, OpenEventSays, PostSays, CloseSays, FinishSays}
 use Rattle.writer.specs.UniqueLaws as W
 use Rattle.reader.specs.declared.Scan.{Scan}
-use Rattle.reader.specs.Reader.{startOf, stepAt, judgeAt, endNumber}
+use Rattle.reader.specs.Reader.{startOf, endNumber}
+use Rattle.reader.specs.Answers.{StepSays, JudgedSays}
 use Rattle.records.specs.declared.answer.Pairs.{Pairs}
-use Rattle.records.specs.Next.{nextAt, partOf}
+use Rattle.records.specs.Next.{partOf}
+use Rattle.records.specs.Answers.{NextSays}
 use Rattle.host.specs.Check.{checkNumber}
 use Rattle.host.specs.Face.{SetUpFace, OpenBlockFace, OpenEventFace, PostFace, CloseFace, FinishFace, FindFace}
 use Rattle.host.specs.UniqueLaws as H
@@ -283,18 +285,18 @@ finish-unique = W.finish-unique
 pub scan-start-unique : Unique (λ r. r ≡ startOf)
 scan-start-unique = by-equation _
 
-pub scan-step-unique : (self : Scan) (word : ℕ) → Unique (λ r. r ≡ stepAt self word)
-scan-step-unique self word = by-equation _
+pub scan-step-unique : (self : Scan) (word : ℕ) → Unique (StepSays self word)
+scan-step-unique self word r r′ p q = one-result (p .answer) (q .answer)
 
-pub scan-judge-unique : (self : Scan) (word : ℕ) → Unique (λ r. r ≡ judgeAt self word)
-scan-judge-unique self word = by-equation _
+pub scan-judge-unique : (self : Scan) (word : ℕ) → Unique (JudgedSays self word)
+scan-judge-unique self word r r′ p q = one-result (p .answer) (q .answer)
 
 pub scan-at-end-unique : (self : Scan) → Unique (λ r. r ≡ endNumber self)
 scan-at-end-unique self = by-equation _
 
 -- records; of `part`, the words that it lends
-pub next-unique : (words : List ℕ) (scan : Scan) → Unique (λ r. r ≡ nextAt words scan)
-next-unique words scan = by-equation _
+pub next-unique : (words : List ℕ) (scan : Scan) → Unique (NextSays words scan)
+next-unique words scan r r′ p q = one-result (p .answer) (q .answer)
 
 pub part-unique : (words : List ℕ) (pairs : Pairs) → Unique (λ r. r ≡ partOf words pairs)
 part-unique words pairs = by-equation _

@@ -1,6 +1,6 @@
 -- How long a text can be: at most 23 bytes a word, and one refusal's line. Assumes nothing.
 use Prim.Native.Nat.{ℕ, zero, suc, _+_, _-_, _*_, _/_, _%_, _^_, _≤_, _<_}
-use mathlib.Core.Path.{_≡_, refl}
+use mathlib.Core.Path.{_≡_, refl, sym, ap, _∙_}
 use mathlib.Core.Bool.{Bool, true, false, cond, not, _||_}
 use mathlib.Core.List.{List, [], _∷_, _++_}
 use native.Mathlib.Omega.{arith}
@@ -35,7 +35,7 @@ use Rattle.listing.specs.declared.Listed.{Listed}
 use Rattle.listing.specs.declared.Listed.the-variants as L
 use Rattle.lines.specs.Lines.{blockName, setupName, eventName, clockName, clock27Name, windowName, pulseName, pairName, integralName, timeName, pedName, endName, fillName, emptyName, refusedName, refusedLine, fillLines, clockLine}
 use Rattle.listing.specs.Listing.{highIn, secondOf, recordLines, itemLines, fillerIn, fillersIn, isWhole, outLines, blockLines, linesFrom, lengthWrong, linesOf, listingOf}
-use Rattle.listing.specs.Says.{Says}
+use Rattle.listing.specs.Says.{listedNumber, Says}
 use Rattle.listing.specs.BlockLaws.{whole-some}
 
 -- ---- one record
@@ -216,6 +216,5 @@ listing-le bytes = go (lengthWrong (length bytes)) refl
 pub always-room : (bytes : List ℕ) {text : List ℕ} {r : Listed} {text′ : List ℕ} {n : ℕ} → 376854 ≤ length text → r ≡ L.NoRoom n → Says (listingOf bytes) text r text′ → ⊥
 always-room bytes {text} h e s =
     let f : leb (length (listingOf bytes)) (length text) ≡ true = le-leb (length (listingOf bytes)) (length text) (omega (arith, listing-le bytes)) in
-    let a = rw f at (s .answer) in
-    let z : _≡_ {A = ℕ} 0 1 = cc in
+    let a : _≡_ {A = ℕ} 9 0 = sym (ap listedNumber e) ∙ s .number ∙ rw f in
     omega arith
