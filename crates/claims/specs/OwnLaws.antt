@@ -193,7 +193,7 @@ unfolding withEvent
 unposted o =
     let n = sym (o .says .refusal) ∙ o .accepted in
     let a = open-event-accepted (o .before) (o .number) (o .time) n in
-    rw (o .gave ∙ (o .says .state ∙ done _ _ n)) (record { sixteen = o .sixteen; none = block-says (o .before) (a .state) (a .turn) .clear })
+    subst Unposted (sym (o .gave ∙ (o .says .state ∙ done _ _ n))) (record { sixteen = o .sixteen; none = block-says (o .before) (a .state) (a .turn) .clear })
 
 own-channels : (b : Bench) (l : List Post) → Unposted (b .state) → Apart l → (c n : ℕ) → c + n ≡ 16
     → channelsItems (posts b l .state .settings) (posts b l .store) c (drop c (posts b l .state .posted)) ≡ ownItems (b .state .settings) (windowFor b l) c n
