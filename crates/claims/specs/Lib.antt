@@ -23,4 +23,7 @@ pub mod ReadsLaws
 pub mod Runs
 pub mod BenchRuns
 pub mod CheckLaws
+pub mod FromC
+pub mod FromCLaws
+pub mod CRunLaws
 pub mod Unique

@@ -18,7 +18,6 @@ use Rattle.items.specs.declared.Item.the-variants as I
 use Rattle.channel.specs.Channel.{commonOf, channelItems}
 use Rattle.event.specs.Event.{row, timeItems, channelsItems, eventItems}
 use Rattle.event.specs.EventLaws.{row-end, channelAt, channels-step, channels-end}
-use Rattle.settings.specs.Refusal.{numberOf}
 use Rattle.writer.specs.declared.State.{State}
 use Rattle.writer.specs.State.{noMarks, withEvent, withMark}
 use Rattle.writer.specs.Calls.{closingItems}
