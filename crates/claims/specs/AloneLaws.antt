@@ -4,6 +4,7 @@ use mathlib.Core.Path.{_≡_, refl, sym, ap, ap₂, _∙_}
 use mathlib.Core.Bool.{Bool, true, false, cond, _&&_}
 use mathlib.Core.List.{List, [], _∷_, _++_, append-assoc, append-nil}
 use native.Mathlib.Omega.{arith}
+use native.Mathlib.Decide.{decLt}
 use borrow.Author.Tests.{eqb-true, eqb-false, ne-eqb}
 use lib.Dec.{eqb, leb, ltb}
 use lib.ListN.{length, getD, take, drop}
@@ -32,7 +33,7 @@ use Rattle.writer.specs.CallsLaws.{done, close-accepted}
 use Rattle.claims.specs.Order.{Bench, Post}
 use Rattle.claims.specs.OrderLaws.{run-posts}
 use Rattle.claims.specs.Own.{EventRun, settingsIn, windowOf, closedWords, channelTypes, isOwn, ofChannel, wordsFor}
-use Rattle.claims.specs.OwnLaws.{windowFor, itemsFor, ownItems, own-records}
+use Rattle.claims.specs.OwnLaws.{windowFor, itemsFor, ownItems, window-out, own-records}
 
 -- ---- whose a word is
 
@@ -185,12 +186,13 @@ module _ (s : Settings) (windows : ℕ → List (List ℕ)) (c : ℕ) where
       rw (words-append (itemsFor s d (windows d)) (ownItems s windows (d + 1) n))
       (items-part c d (omega arith) s (windows d) .pick false (wordsOf (ownItems s windows (d + 1) n)) (own-fresh (d + 1) n (omega arith)))
 
-  own-behind : (d n : ℕ) → d + n ≤ 16 → c < d → ofChannel c false (wordsOf (ownItems s windows d n)) ≡ []
+  -- c is none of them
+  own-none : (d n : ℕ) → d + n ≤ 16 → ((i : ℕ) → i < n → d + i ≡ c → ⊥) → ofChannel c false (wordsOf (ownItems s windows d n)) ≡ []
   unfolding ownItems ofChannel
-  own-behind d zero k h = refl
-  own-behind d (suc n) k h =
-      let m : (d ≡ c → ⊥) = λ e. omega arith in
-      own-step d n k ∙ rw (ne-eqb d c m) (own-behind (d + 1) n (omega arith) (omega arith))
+  own-none d zero k h = refl
+  own-none d (suc n) k h =
+      let m : (d ≡ c → ⊥) = λ e. h 0 (omega arith) (omega arith) in
+      own-step d n k ∙ rw (ne-eqb d c m) (own-none (d + 1) n (omega arith) (λ i l e. h (suc i) (omega arith) (omega arith)))
 
   own-at : (d n : ℕ) → d + n ≤ 16 → d ≤ c → c < d + n → ofChannel c false (wordsOf (ownItems s windows d n)) ≡ wordsOf (itemsFor s c (windows c))
   own-at d zero k h l = absurd (omega arith)
@@ -200,9 +202,16 @@ module _ (s : Settings) (windows : ℕ → List (List ℕ)) (c : ℕ) where
           → cond b (wordsOf (itemsFor s d (windows d))) [] ++ ofChannel c false (wordsOf (ownItems s windows (d + 1) n)) ≡ wordsOf (itemsFor s c (windows c))
       go true e r =
           let j : d ≡ c = eqb-true d c e in
-          ap (λ (l : List ℕ). wordsOf (itemsFor s d (windows d)) ++ l) (own-behind (d + 1) n (omega arith) (omega arith))
+          ap (λ (l : List ℕ). wordsOf (itemsFor s d (windows d)) ++ l) (own-none (d + 1) n (omega arith) (λ i k z. omega arith))
           ∙ (append-nil (wordsOf (itemsFor s d (windows d))) ∙ ap (λ (i : ℕ). wordsOf (itemsFor s i (windows i))) j)
       go false e r = r (omega (arith, eqb-false d c e))
+
+  own-picked : (16 ≤ c → windows c ≡ []) → ofChannel c false (wordsOf (ownItems s windows 0 16)) ≡ wordsOf (itemsFor s c (windows c))
+  own-picked w =
+      elim (decLt c 16) [
+        | yes k ↦ own-at 0 16 (omega arith) (omega arith) k
+        | no k ↦ own-none 0 16 (omega arith) (λ i l z. omega (arith, k)) ∙ sym (ap (λ (ws : List (List ℕ)). wordsOf (itemsFor s c ws)) (w (omega (arith, k))))
+      ]
 
 -- the event's header and time words are no channel's
 head-part : (c slot number times time : ℕ) (xs : List Item)
@@ -241,36 +250,36 @@ closed-words e =
     ∙ row-same (e .words) (s .words) (wordsOf xs) (omega (arith, a .fit))
 
 -- channel c's words are those of its own posted window
-own-by : (e : EventRun) (c : ℕ) → c < 16 → wordsFor e c ≡ wordsOf (itemsFor (settingsIn e) c (windowOf (e .answers) c))
-own-by e c h =
+own-by : (e : EventRun) (c : ℕ) → wordsFor e c ≡ wordsOf (itemsFor (settingsIn e) c (windowOf (e .answers) c))
+own-by e c =
     let b = e .start in
     let r = run-posts (e .apart) (e .posted) in
     let xs : List Item = ownItems (b .state .settings) (windowFor b (e .posts)) 0 16 in
     ap (ofChannel c false) (closed-words e ∙ ap wordsOf (ap (λ (t : Bench). closingItems (t .state) (t .store)) (r .0) ∙ own-records b (e .posts) (e .opened) (e .apart)))
     ∙ (head-part c (b .state .settings .slot) (b .state .event) (b .state .settings .times) (b .state .time) xs
-    ∙ (own-at (b .state .settings) (windowFor b (e .posts)) c 0 16 (omega arith) (omega arith) h
+    ∙ (own-picked (b .state .settings) (windowFor b (e .posts)) c (window-out b (e .posts) c)
     ∙ ap (λ (ns : List (Post × ℕ)). wordsOf (itemsFor (b .state .settings) c (windowOf ns c))) (sym (r .1))))
 
 -- ---- the demand
 
 -- "a channel's words depend on its own posted window, its own threshold and the common settings": they are the words of these
-pub own-words : (e : EventRun) (c : ℕ) (w : List ℕ) → c < 16 → windowOf (e .answers) c ≡ w ∷ []
+pub own-words : (e : EventRun) (c : ℕ) (w : List ℕ) → windowOf (e .answers) c ≡ w ∷ []
     → wordsFor e c ≡ channelWords (commonOf (settingsIn e)) (getD (settingsIn e .thresholds) c 0) c w
-own-words e c w h k = own-by e c h ∙ ap (λ (ws : List (List ℕ)). wordsOf (itemsFor (settingsIn e) c ws)) k
+own-words e c w k = own-by e c ∙ ap (λ (ws : List (List ℕ)). wordsOf (itemsFor (settingsIn e) c ws)) k
 
 -- "A channel with no posted window has no words."
-pub no-window : (e : EventRun) (c : ℕ) → c < 16 → windowOf (e .answers) c ≡ [] → wordsFor e c ≡ []
-no-window e c h k = own-by e c h ∙ ap (λ (ws : List (List ℕ)). wordsOf (itemsFor (settingsIn e) c ws)) k
+pub no-window : (e : EventRun) (c : ℕ) → windowOf (e .answers) c ≡ [] → wordsFor e c ≡ []
+no-window e c k = own-by e c ∙ ap (λ (ws : List (List ℕ)). wordsOf (itemsFor (settingsIn e) c ws)) k
 
 -- ".. and on nothing in other channels or left in the store before": two events that agree on these have the same words for c, and may differ in all
 -- else: other windows and thresholds, the store before, the order and number of posts, the event's number and time, the other settings, the buffer
-pub own-alone : (e f : EventRun) (c : ℕ) → c < 16
+pub own-alone : (e f : EventRun) (c : ℕ)
     → commonOf (settingsIn e) ≡ commonOf (settingsIn f)
     → getD (settingsIn e .thresholds) c 0 ≡ getD (settingsIn f .thresholds) c 0
     → windowOf (e .answers) c ≡ windowOf (f .answers) c
     → wordsFor e c ≡ wordsFor f c
-own-alone e f c h s t k =
-    own-by e c h ∙ (ap (λ (ws : List (List ℕ)). wordsOf (itemsFor (settingsIn e) c ws)) k ∙ (go (windowOf (f .answers) c) ∙ sym (own-by f c h)))
+own-alone e f c s t k =
+    own-by e c ∙ (ap (λ (ws : List (List ℕ)). wordsOf (itemsFor (settingsIn e) c ws)) k ∙ (go (windowOf (f .answers) c) ∙ sym (own-by f c)))
   where
     go : (ws : List (List ℕ)) → wordsOf (itemsFor (settingsIn e) c ws) ≡ wordsOf (itemsFor (settingsIn f) c ws)
     go [] = refl

@@ -179,16 +179,16 @@ same-words e c =
     let at : ℕ = stateFrom (e .end) .words in
     ap (λ (s : State). ofChannel c false (take (s .words - at) (drop at (e .words′)))) (closing e .state .back)
 
-pub c-own-words : (e : CEventRun) (c : ℕ) (w : List ℕ) → c < 16 → windowOf (e .answers) c ≡ w ∷ []
+pub c-own-words : (e : CEventRun) (c : ℕ) (w : List ℕ) → windowOf (e .answers) c ≡ w ∷ []
     → cWordsFor e c ≡ channelWords (commonOf (settingsOf e)) (getD (settingsOf e .thresholds) c 0) c w
-c-own-words e c w h k = same-words e c ∙ own-words (eventOf e) c w h k
+c-own-words e c w k = same-words e c ∙ own-words (eventOf e) c w k
 
-pub c-no-window : (e : CEventRun) (c : ℕ) → c < 16 → windowOf (e .answers) c ≡ [] → cWordsFor e c ≡ []
-c-no-window e c h k = same-words e c ∙ no-window (eventOf e) c h k
+pub c-no-window : (e : CEventRun) (c : ℕ) → windowOf (e .answers) c ≡ [] → cWordsFor e c ≡ []
+c-no-window e c k = same-words e c ∙ no-window (eventOf e) c k
 
-pub c-own-alone : (e f : CEventRun) (c : ℕ) → c < 16
+pub c-own-alone : (e f : CEventRun) (c : ℕ)
     → commonOf (settingsOf e) ≡ commonOf (settingsOf f)
     → getD (settingsOf e .thresholds) c 0 ≡ getD (settingsOf f .thresholds) c 0
     → windowOf (e .answers) c ≡ windowOf (f .answers) c
     → cWordsFor e c ≡ cWordsFor f c
-c-own-alone e f c h s t k = same-words e c ∙ (own-alone (eventOf e) (eventOf f) c h s t k ∙ sym (same-words f c))
+c-own-alone e f c s t k = same-words e c ∙ (own-alone (eventOf e) (eventOf f) c s t k ∙ sym (same-words f c))

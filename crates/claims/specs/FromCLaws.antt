@@ -21,7 +21,7 @@ use Rattle.writer.specs.State.{idle, blank, withEvent}
 use Rattle.writer.specs.Calls.{ifAccepted, setUpNumber, openBlockTable, openBlockNumber, OpenBlockSays, openEventTable, openEventNumber, OpenEventSays, postTable, postNumber, PostSays, closeTable, closeNumber, CloseSays, endItems, finishTable, finishNumber}
 use Rattle.writer.specs.CallsLaws.{done, refused}
 use Rattle.host.specs.Face.{isSettings, isState, settingsFrom, stateFrom, numbersOf, onState, onSettings, orElse, blockOpened, posted, eventClosed, finishOn, inHigh, SetUpFace, OpenBlockFace, OpenEventFace, PostFace, CloseFace, FinishFace, FindFace}
-use Rattle.host.specs.BackLaws.{Loads, set-up-loads, open-block-loads, open-event-loads, post-loads, close-loads, finish-loads, finish-below}
+use Rattle.host.specs.BackLaws.{Loads, numbers-back, set-up-loads, open-block-loads, open-event-loads, post-loads, close-loads, finish-loads, finish-below}
 use Rattle.claims.specs.Tables.{Exactly, exactly}
 use Rattle.claims.specs.OrderLaws.{zero-or}
 use Rattle.claims.specs.FromC.{Call, SetUpCall, FinishCall, FindCall}
@@ -205,6 +205,10 @@ made n rows new {r = r} e ok h p f g =
       number = number-in rows ok ∙ sym same;
       state = either-loads (firstOf rows) new e (λ z. f (sym (same ∙ z))) (λ ne. p ∙ refused r _ _ (λ z. ne (sym same ∙ z)));
     }
+
+-- so the numbers left are those of the answer's state
+pub call-leaves : {says : Answer → Type 0} {r : ℕ} {n′ : List ℕ} (k : Call says r n′) → n′ ≡ numbersOf (k .answer .state)
+call-leaves {n′ = n′} k = sym (numbers-back n′ (k .state .state)) ∙ ap numbersOf (k .state .back)
 
 pub open-block-call : (n words : List ℕ) (block events r : ℕ) (n′ words′ : List ℕ) → isState n ≡ true → OpenBlockFace n words block events r n′ words′
     → Call (λ a. OpenBlockSays (stateFrom n) words block events a words′) r n′

@@ -2,7 +2,7 @@
 use Prim.Native.Nat.{ℕ, zero, suc, _+_, _*_, _≤_, _<_}
 use mathlib.Core.Path.{_≡_, refl, sym, ap, ap₂, _∙_, subst}
 use mathlib.Core.Logic.{_≢_}
-use mathlib.Core.Bool.{Bool, true, false, not, cond}
+use mathlib.Core.Bool.{Bool, true, false, not, cond, _&&_}
 use mathlib.Core.List.{List, [], _∷_, _++_, map}
 use native.Mathlib.Omega.{arith}
 use borrow.Author.Tests.{eqb-true, eqb-false, eq-eqb, ne-eqb, not-true}
@@ -112,6 +112,16 @@ window-none : (b : Bench) (l : List Post) (c : ℕ) → NoneFor c l → windowFo
 unfolding windowOf
 window-none b [] c n = refl
 window-none b (p ∷ l) c n = rw (ne-eqb (p .channel) c (λ e. n .0 (sym e))) (window-none b l c (n .1))
+
+-- no post for a channel over 15 is accepted
+pub window-out : (b : Bench) (l : List Post) (c : ℕ) → 16 ≤ c → windowFor b l c ≡ []
+unfolding windowOf
+window-out b [] c h = refl
+window-out b (p ∷ l) c h = go (eqb (p .channel) c) refl (window-out b l c h)
+  where
+    go : (t : Bool) → eqb (p .channel) c ≡ t → windowFor b l c ≡ [] → cond (t && eqb (answerOf b p) 0) (p .window ∷ []) (windowFor b l c) ≡ []
+    go true e i = rw (ne-eqb (answerOf b p) 0 (λ z. omega (arith, eqb-true (p .channel) c e, has b p z .channel))) i
+    go false e i = i
 
 window-after : (b : Bench) (p : Post) (l : List Post) (c : ℕ) → ToEach Differ p l → windowFor (after b p) l c ≡ windowFor b l c
 unfolding windowOf
