@@ -30,6 +30,9 @@ pub mod CheckLaws
 pub mod Runs
 pub mod BenchRuns
 pub mod FollowedLaws
+pub mod FromC
+pub mod FromCLaws
+pub mod CRunLaws
 pub mod Unique
 pub mod FieldEnds
 pub mod FieldEndsLaws
