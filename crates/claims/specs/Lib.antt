@@ -24,3 +24,4 @@ pub mod Runs
 pub mod BenchRuns
 pub mod CheckLaws
 pub mod Unique
+pub mod Ties
