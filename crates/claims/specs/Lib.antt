@@ -34,5 +34,6 @@ pub mod FromC
 pub mod FromCLaws
 pub mod CRunLaws
 pub mod Unique
+pub mod Ties
 pub mod FieldEnds
 pub mod FieldEndsLaws

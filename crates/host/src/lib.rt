@@ -3,8 +3,8 @@ ghost use mathlib.Core.Path.{_≡_};
 ghost use Prim.Native.Nat.{_+_, _*_, _^_};
 ghost use Rattle.host.specs.Check.{checkNumber};
 
-mod calls;
-mod found;
+pub mod calls;
+pub mod found;
 mod numbers;
 
 use reader::Scan;
