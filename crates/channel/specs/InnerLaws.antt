@@ -6,7 +6,7 @@ use mathlib.Core.List.{List, [], _∷_, _++_}
 use native.Mathlib.Omega.{arith}
 use native.Mathlib.Numerals.{add-one}
 use lib.ListN.{length, getD, drop, replicate, drop-of-length-le, length-append, length-take, length-drop}
-use lib.Seq.{drop-cons, getD-take, length-take-le, take-at, sets-eq}
+use lib.Seq.{drop-cons, getD-take, length-take-le, sets-eq}
 use Rattle.ground.specs.TestsLaws.{or-none}
 use Rattle.settings.specs.Ranges.{mostSamples, settingsOk}
 use Rattle.settings.specs.RangesLaws.{InRange, settings-in-range}
@@ -15,7 +15,7 @@ use Rattle.finder.specs.declared.Pulse.{Pulse}
 use Rattle.finder.specs.declared.Pulses.{Pulses}
 use Rattle.finder.specs.Find.{anyOver, pulsesFrom, noPulse, packed, findAll}
 use Rattle.finder.specs.CallLaws.{find-in-range}
-use Rattle.finder.specs.RangeLaws.{PulseFits, EachFits, fits-at, pulses-fit, pulses-count}
+use Rattle.finder.specs.RangeLaws.{PulseFits, EachFits, fits-at, pulses-fit, pulses-count, packed-back}
 use Rattle.channel.specs.declared.Parts.{Parts}
 use Rattle.items.specs.declared.Item.{Item}
 use Rattle.channel.specs.Channel.{pairItems, windowItems, setOf, rawItems, integralItem, timeItem, pedestalItem, partsOf, pulseItems, pulsesItems, Common, commonOf, pulsesOf, channelItems}
@@ -39,8 +39,8 @@ listed-step found i d h g =
     drop-cons (listed found) i d l ∙ ap₂ (λ (p : Pulse) (n : ℕ). p ∷ drop n (listed found)) (listed-at found i d g) (sym (add-one i))
 
 pub listed-packed : (l : List Pulse) → length l ≤ 3 → listed (packed l) ≡ l
-unfolding listed packed
-listed-packed l h = rw (sets-eq l (replicate 3 noPulse) 0 (omega arith)) (take-at l _ (length l) refl)
+unfolding listed
+listed-packed l h = packed-back l h
 
 pub in-window : (n : ℕ) (l : List Pulse) → EachFits n l → length l ≤ 3 → InWindow n (packed l)
 unfolding packed

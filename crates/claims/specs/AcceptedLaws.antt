@@ -127,12 +127,12 @@ ended : (s : Scan) (w : ℕ) → stepAt s w ≡ S.Ended → unfinished (s .phase
 unfolding stepAt formAt
 ended s w e = end-tail (s .phase) (eqb (read 31 31 w) 0) (read 30 27 w) (go (isEnd (formAt s w)) refl e)
   where
-    go : (b : Bool) → isEnd (formAt s w) ≡ b → cond b S.Ended (cond (eqb (refusalOf s (formAt s w) w) 0) (S.Went (formAt s w) (after s (itemFrom (formAt s w) w))) (S.Refused (refusalOf s (formAt s w) w))) ≡ S.Ended
+    go : (b : Bool) → isEnd (formAt s w) ≡ b → cond b S.Ended (cond (eqb (refusalOf s (formAt s w) w) 0) (S.Went (formAt s w) (after s (itemFrom (formAt s w) w))) (S.Refused (refusalOf s (formAt s w) w) (s .place))) ≡ S.Ended
         → isEnd (formAt s w) ≡ true
     go true i e = i
     go false i e = went (eqb (refusalOf s (formAt s w) w) 0) e
       where
-        went : (d : Bool) → cond d (S.Went (formAt s w) (after s (itemFrom (formAt s w) w))) (S.Refused (refusalOf s (formAt s w) w)) ≡ S.Ended → isEnd (formAt s w) ≡ true
+        went : (d : Bool) → cond d (S.Went (formAt s w) (after s (itemFrom (formAt s w) w))) (S.Refused (refusalOf s (formAt s w) w) (s .place)) ≡ S.Ended → isEnd (formAt s w) ≡ true
         went true e = let x : _≡_ {A = ℕ} 0 1 = cc in absurd (omega arith)
         went false e = let x : _≡_ {A = ℕ} 0 1 = cc in absurd (omega arith)
 
@@ -158,7 +158,7 @@ taken-whole s (w ∷ ws) n e = go (stepAt s w) refl e (λ t. taken-whole t ws n)
     go (S.Went f t) q e r =
         let a : Accepted s w f t = accepted s w q in
         (stood s w f t a, subst (λ (u : Scan). Follow u ((readFrom t ws) .items)) (a .scan) (r t e))
-    go (S.Refused k) q e r = let x : _≡_ {A = ℕ} 0 1 = cc in absurd (omega arith)
+    go (S.Refused k p) q e r = let x : _≡_ {A = ℕ} 0 1 = cc in absurd (omega arith)
     go S.Ended q e r = ended s w q
 
 -- what the reader takes as a whole block are records of the layout; `nothing-lost` says that they are the words that were there

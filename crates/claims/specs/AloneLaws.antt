@@ -1,41 +1,101 @@
--- Demand 3 over two runs: channel c's records of what a close writes are those of its own posted window. Assumes nothing.
-use Prim.Native.Nat.{ℕ, zero, suc, _+_, _≤_, _<_}
+-- Demand 3 over the calls: channel c's words in the buffer, after the close, are those of its own posted window. Assumes nothing.
+use Prim.Native.Nat.{ℕ, zero, suc, _+_, _-_, _*_, _/_, _%_, _≤_, _<_, min}
 use mathlib.Core.Path.{_≡_, refl, sym, ap, ap₂, _∙_}
 use mathlib.Core.Bool.{Bool, true, false, cond, _&&_}
 use mathlib.Core.List.{List, [], _∷_, _++_, append-assoc, append-nil}
 use native.Mathlib.Omega.{arith}
+use native.Mathlib.Decide.{decLt}
 use borrow.Author.Tests.{eqb-true, eqb-false, ne-eqb}
-use lib.Dec.{eqb, leb}
-use lib.ListN.{getD}
+use lib.Dec.{eqb, leb, ltb}
+use lib.ListN.{length, getD, take, drop}
+use Rattle.ground.specs.Tests.{oneOf}
+use Rattle.ground.specs.SpliceLaws.{row-same}
+use Rattle.fields.specs.Word.{fieldAt}
+use Rattle.fields.specs.Tag.{isContinuation}
 use Rattle.settings.specs.declared.Settings.{Settings}
 use Rattle.finder.specs.declared.Pulse.{Pulse}
 use Rattle.finder.specs.Find.{anyOver}
+use Rattle.frame.specs.Words as W
+use Rattle.raw.specs.declared.pair.SamplePair.{SamplePair}
+use Rattle.raw.specs.Words as R
+use Rattle.measures.specs.Words as M
+use Rattle.items.specs.Items.{wordOf, wordsOf}
+use Rattle.items.specs.ItemsLaws.{length-words, words-append}
 use Rattle.items.specs.declared.Item.{Item}
 use Rattle.items.specs.declared.Item.the-variants as I
 use Rattle.channel.specs.declared.Parts.{Parts}
-use Rattle.channel.specs.Channel.{pairItems, windowItems, setOf, rawItems, integralItem, timeItem, pedestalItem, partsOf, pulseItems, pulsesItems, Common, commonOf, pulsesOf, channelItems}
+use Rattle.channel.specs.Channel.{pairItems, windowItems, setOf, rawItems, integralItem, timeItem, pedestalItem, partsOf, pulseItems, pulsesItems, Common, commonOf, pulsesOf, channelItems, channelWords}
 use Rattle.event.specs.Event.{timeItems}
-use Rattle.claims.specs.Order.{Bench, Post, Apart}
-use Rattle.claims.specs.Own.{JustOpened, windowFor, itemsFor, ownItems, isOwn, ofChannel, writtenFor}
-use Rattle.claims.specs.OwnLaws.{own-words}
+use Rattle.writer.specs.declared.State.{State}
+use Rattle.writer.specs.State.{withClosed}
+use Rattle.writer.specs.Calls.{closingItems, closeNumber}
+use Rattle.writer.specs.CallsLaws.{done, close-accepted}
+use Rattle.claims.specs.Order.{Bench, Post}
+use Rattle.claims.specs.OrderLaws.{run-posts}
+use Rattle.claims.specs.Own.{EventRun, settingsIn, windowOf, closedWords, channelTypes, isOwn, ofChannel, wordsFor}
+use Rattle.claims.specs.OwnLaws.{windowFor, itemsFor, ownItems, window-out, own-records}
 
--- ---- records that are all one channel's
+-- ---- whose a word is
 
--- no pair stands first: what is picked does not depend on the record before
-abbrev Fresh : ℕ → List Item → Type 0
+-- a defining word: bit 31, the type, the channel, and what stands below
+defined : (c : ℕ) (own : Bool) (t d low : ℕ) {word : ℕ} → word ≡ 2147483648 + (t * 134217728 + (d * 8388608 + low)) → t ≤ 15 → d ≤ 15 → low < 8388608
+    → isOwn c own word ≡ (oneOf t channelTypes && eqb d c)
+unfolding isOwn isContinuation fieldAt
+defined c own t d low {word} e h k l =
+    let bit : word / 2147483648 % 2 ≡ 1 = omega arith in
+    let tag : word / 134217728 % 16 ≡ t = omega arith in
+    let channel : word / 8388608 % 16 ≡ d = omega arith in
+    rw (bit, tag, channel)
+
+continued : (c : ℕ) (own : Bool) {word : ℕ} → word < 2147483648 → isOwn c own word ≡ own
+unfolding isOwn isContinuation fieldAt
+continued c own {word} l = let bit : word / 2147483648 % 2 ≡ 0 = omega arith in rw bit
+
+own-pair : (c : ℕ) (own : Bool) (r : SamplePair) → isOwn c own (wordOf (I.Pair r)) ≡ own
+unfolding wordOf R.pair
+own-pair c own r = continued c own (omega arith)
+
+module _ (c : ℕ) (own : Bool) (d : ℕ) (h : d ≤ 15) where
+  own-window : (width : ℕ) → isOwn c own (wordOf (I.Window (record { channel = d; width = width }))) ≡ eqb d c
+  unfolding wordOf R.window
+  own-window width = defined c own 4 d (width % 4096) (omega arith) (omega arith) h (omega arith)
+
+  own-raw : (pulse tc : ℕ) → isOwn c own (wordOf (I.Raw (record { channel = d; pulse = pulse; tc = tc }))) ≡ eqb d c
+  unfolding wordOf R.pulseRaw
+  own-raw pulse tc = defined c own 6 d (pulse % 4 * 2097152 + tc % 1024) (omega arith) (omega arith) h (omega arith)
+
+  own-integral : (i : ℕ) (p : Pulse) → isOwn c own (wordOf (integralItem d i p)) ≡ eqb d c
+  unfolding wordOf M.integral integralItem
+  own-integral i p = let q : ℕ = cond (ltb 524287 (p .sum)) 1 0 in defined c own 7 d (i % 4 * 2097152 + (q % 4 * 524288 + min (p .sum) 524287 % 524288)) (omega arith) (omega arith) h (omega arith)
+
+  own-time : (high : Bool) (i : ℕ) (p : Pulse) → isOwn c own (wordOf (timeItem high d i p)) ≡ eqb d c
+  unfolding wordOf M.time timeItem
+  own-time high i p =
+      let coarse : ℕ = cond high (p .time .coarse) (p .tc) in
+      let fine : ℕ = cond high (p .time .fine) 0 in
+      defined c own 8 d (i % 4 * 2097152 + (coarse % 512 * 64 + fine % 64)) (omega arith) (omega arith) h (omega arith)
+
+  own-pedestal : (i : ℕ) (p : Pulse) → isOwn c own (wordOf (pedestalItem d i p)) ≡ eqb d c
+  unfolding wordOf M.pedestal pedestalItem
+  own-pedestal i p = defined c own 10 d (i % 4 * 2097152 + (min (p .time .vmin) 511 % 512 * 4096 + p .time .vpeak % 4096)) (omega arith) (omega arith) h (omega arith)
+
+-- ---- words that are all one channel's
+
+-- no continuation stands first: what is picked does not depend on the word before
+abbrev Fresh : ℕ → List ℕ → Type 0
 Fresh c rest = ofChannel c true rest ≡ ofChannel c false rest
 
--- all of the records are picked, or none
+-- the words of the records are all picked, or none
 record Part (c : ℕ) (on : Bool) (xs : List Item) : Type 0 where
-  pick : (own : Bool) (rest : List Item) → Fresh c rest → ofChannel c own (xs ++ rest) ≡ cond on xs [] ++ ofChannel c false rest
+  pick : (own : Bool) (rest : List ℕ) → Fresh c rest → ofChannel c own (wordsOf xs ++ rest) ≡ cond on (wordsOf xs) [] ++ ofChannel c false rest
 
-part-fresh : {c : ℕ} {on : Bool} {xs : List Item} (rest : List Item) → Part c on xs → Fresh c rest → Fresh c (xs ++ rest)
+part-fresh : {c : ℕ} {on : Bool} {xs : List Item} (rest : List ℕ) → Part c on xs → Fresh c rest → Fresh c (wordsOf xs ++ rest)
 part-fresh rest p f = p .pick true rest f ∙ sym (p .pick false rest f)
 
 part-none : {c : ℕ} (on : Bool) → Part c on []
 part-none {c} on = record { pick = λ own rest f. go own on rest f }
   where
-    go : (own on : Bool) (rest : List Item) → Fresh c rest → ofChannel c own rest ≡ cond {A = List Item} on [] [] ++ ofChannel c false rest
+    go : (own on : Bool) (rest : List ℕ) → Fresh c rest → ofChannel c own rest ≡ cond {A = List ℕ} on [] [] ++ ofChannel c false rest
     go true true rest f = f
     go true false rest f = f
     go false true rest f = refl
@@ -45,124 +105,182 @@ part-append : {c : ℕ} {on : Bool} {xs ys : List Item} → Part c on xs → Par
 part-append {c} {on} {xs} {ys} p q =
     record {
       pick = λ own rest f.
-          ap (ofChannel c own) (append-assoc xs ys rest)
-          ∙ (p .pick own (ys ++ rest) (part-fresh rest q f) ∙ (ap (λ (l : List Item). cond on xs [] ++ l) (q .pick false rest f) ∙ both on rest));
+          ap (λ (l : List ℕ). ofChannel c own (l ++ rest)) (words-append xs ys)
+          ∙ (ap (ofChannel c own) (append-assoc (wordsOf xs) (wordsOf ys) rest)
+          ∙ (p .pick own (wordsOf ys ++ rest) (part-fresh rest q f) ∙ (ap (λ (l : List ℕ). cond on (wordsOf xs) [] ++ l) (q .pick false rest f) ∙ both on rest)));
     }
   where
-    both : (b : Bool) (rest : List Item) → cond b xs [] ++ (cond b ys [] ++ ofChannel c false rest) ≡ cond b (xs ++ ys) [] ++ ofChannel c false rest
-    both true rest = sym (append-assoc xs ys (ofChannel c false rest))
+    both : (b : Bool) (rest : List ℕ) → cond b (wordsOf xs) [] ++ (cond b (wordsOf ys) [] ++ ofChannel c false rest) ≡ cond b (wordsOf (xs ++ ys)) [] ++ ofChannel c false rest
+    both true rest = sym (append-assoc (wordsOf xs) (wordsOf ys) (ofChannel c false rest)) ∙ ap (λ (l : List ℕ). l ++ ofChannel c false rest) (sym (words-append xs ys))
     both false rest = refl
 
 part-if : {c : ℕ} {on : Bool} (b : Bool) {xs : List Item} → Part c on xs → Part c on (cond b xs [])
 part-if true p = p
 part-if {on = on} false p = part-none on
 
--- pairs behind a record that is picked or not
-pairs-go : (c : ℕ) (on : Bool) (w : List ℕ) (rest : List Item) → Fresh c rest → ofChannel c on (pairItems w ++ rest) ≡ cond on (pairItems w) [] ++ ofChannel c false rest
+-- a word picked or not, before words that are
+both-picked : (on : Bool) (w : ℕ) (ws rest : List ℕ) → cond on (w ∷ []) [] ++ (cond on ws [] ++ rest) ≡ cond on (w ∷ ws) [] ++ rest
+both-picked true w ws rest = refl
+both-picked false w ws rest = refl
+
+-- a pair before words that are all picked, or none
+pair-go : (c : ℕ) (on : Bool) (r : SamplePair) (xs : List Item) (rest : List ℕ) → ofChannel c on (wordsOf xs ++ rest) ≡ cond on (wordsOf xs) [] ++ ofChannel c false rest
+    → ofChannel c on (wordsOf (I.Pair r ∷ xs) ++ rest) ≡ cond on (wordsOf (I.Pair r ∷ xs)) [] ++ ofChannel c false rest
 unfolding ofChannel
-pairs-go c true [] rest f = f
-pairs-go c false [] rest f = refl
-pairs-go c true (x ∷ []) rest f = ap (λ (l : List Item). I.Pair (record { nofirst = 0; first = x; nosecond = 1; second = 0 }) ∷ l) f
-pairs-go c false (x ∷ []) rest f = refl
-pairs-go c true (x ∷ y ∷ w) rest f = ap (λ (l : List Item). I.Pair (record { nofirst = 0; first = x; nosecond = 0; second = y }) ∷ l) (pairs-go c true w rest f)
-pairs-go c false (x ∷ y ∷ w) rest f = pairs-go c false w rest f
+pair-go c on r xs rest h =
+    rw (own-pair c on r) (ap (λ (l : List ℕ). cond on (wordOf (I.Pair r) ∷ []) [] ++ l) h ∙ both-picked on (wordOf (I.Pair r)) (wordsOf xs) (ofChannel c false rest))
 
--- a record that names a channel, and the pairs behind it
-part-raw : {c : ℕ} {on : Bool} (x : Item) (w : List ℕ) → ((own : Bool) → isOwn c own x ≡ on) → Part c on (x ∷ pairItems w)
+-- pairs behind a word that is picked or not
+pairs-go : (c : ℕ) (on : Bool) (w rest : List ℕ) → Fresh c rest → ofChannel c on (wordsOf (pairItems w) ++ rest) ≡ cond on (wordsOf (pairItems w)) [] ++ ofChannel c false rest
+pairs-go c on [] rest f = part-none {c = c} on .pick on rest f
+pairs-go c on (x ∷ []) rest f = pair-go c on _ [] rest (part-none {c = c} on .pick on rest f)
+pairs-go c on (x ∷ y ∷ w) rest f = pair-go c on _ (pairItems w) rest (pairs-go c on w rest f)
+
+-- a word that names a channel, and the pairs behind it
+part-raw : {c : ℕ} {on : Bool} (x : Item) (w : List ℕ) → ((own : Bool) → isOwn c own (wordOf x) ≡ on) → Part c on (x ∷ pairItems w)
 unfolding ofChannel
-part-raw {c} {on} x w h = record { pick = λ own rest f. rw (h own) (ap (λ (l : List Item). cond on (x ∷ []) [] ++ l) (pairs-go c on w rest f) ∙ joined on rest) }
-  where
-    joined : (b : Bool) (rest : List Item) → cond b (x ∷ []) [] ++ (cond b (pairItems w) [] ++ ofChannel c false rest) ≡ cond b (x ∷ pairItems w) [] ++ ofChannel c false rest
-    joined true rest = refl
-    joined false rest = refl
+part-raw {c} {on} x w h =
+    record {
+      pick = λ own rest f.
+          rw (h own)
+          (ap (λ (l : List ℕ). cond on (wordOf x ∷ []) [] ++ l) (pairs-go c on w rest f) ∙ both-picked on (wordOf x) (wordsOf (pairItems w)) (ofChannel c false rest));
+    }
 
--- ---- a channel's records
+-- ---- a channel's words
 
-pulse-part : (c d : ℕ) (m : Parts) (w : List ℕ) (i : ℕ) (p : Pulse) → Part c (eqb d c) (pulseItems m d w i p)
-unfolding pulseItems rawItems integralItem timeItem pedestalItem
-pulse-part c d m w i p =
-    part-append (part-if (m .raw) (part-raw _ (setOf w p) (λ own. refl)))
-    (part-append (part-if (m .integral) (part-raw _ [] (λ own. refl)))
-    (part-append (part-if (m .time) (part-raw _ [] (λ own. refl))) (part-if (m .pedestal) (part-raw _ [] (λ own. refl)))))
+module _ (c d : ℕ) (h : d ≤ 15) where
+  pulse-part : (m : Parts) (w : List ℕ) (i : ℕ) (p : Pulse) → Part c (eqb d c) (pulseItems m d w i p)
+  unfolding pulseItems rawItems
+  pulse-part m w i p =
+      part-append (part-if (m .raw) (part-raw _ (setOf w p) (λ own. own-raw c own d h i (p .tc))))
+      (part-append (part-if (m .integral) (part-raw _ [] (λ own. own-integral c own d h i p)))
+      (part-append (part-if (m .time) (part-raw _ [] (λ own. own-time c own d h (m .high) i p))) (part-if (m .pedestal) (part-raw _ [] (λ own. own-pedestal c own d h i p)))))
 
-pulses-part : (c d : ℕ) (m : Parts) (w : List ℕ) (i : ℕ) (l : List Pulse) → Part c (eqb d c) (pulsesItems m d w i l)
-unfolding pulsesItems
-pulses-part c d m w i [] = part-none (eqb d c)
-pulses-part c d m w i (p ∷ l) = part-append (pulse-part c d m w i p) (pulses-part c d m w (i + 1) l)
+  pulses-part : (m : Parts) (w : List ℕ) (i : ℕ) (l : List Pulse) → Part c (eqb d c) (pulsesItems m d w i l)
+  unfolding pulsesItems
+  pulses-part m w i [] = part-none (eqb d c)
+  pulses-part m w i (p ∷ l) = part-append (pulse-part m w i p) (pulses-part m w (i + 1) l)
 
-channel-part : (c d : ℕ) (s : Common) (t : ℕ) (w : List ℕ) → Part c (eqb d c) (channelItems s t d w)
-unfolding channelItems windowItems
-channel-part c d s t w =
-    part-append (part-if (partsOf (s .mode) .window && anyOver w t) (part-raw _ w (λ own. refl))) (pulses-part c d (partsOf (s .mode)) w 0 (pulsesOf s t w))
-
-items-part : (c d : ℕ) (s : Settings) (ws : List (List ℕ)) → Part c (eqb d c) (itemsFor s d ws)
-items-part c d s [] = part-none (eqb d c)
-items-part c d s (w ∷ ws) = channel-part c d (commonOf s) (getD (s .thresholds) d 0) w
+  items-part : (s : Settings) (ws : List (List ℕ)) → Part c (eqb d c) (itemsFor s d ws)
+  unfolding channelItems windowItems
+  items-part s [] = part-none (eqb d c)
+  items-part s (w ∷ ws) =
+      let t : ℕ = getD (s .thresholds) d 0 in
+      part-append (part-if (partsOf (s .mode) .window && anyOver w t) (part-raw _ w (λ own. own-window c own d h (length w))))
+      (pulses-part (partsOf (s .mode)) w 0 (pulsesOf (commonOf s) t w))
 
 -- ---- all channels
 
 module _ (s : Settings) (windows : ℕ → List (List ℕ)) (c : ℕ) where
-  own-fresh : (d n : ℕ) → Fresh c (ownItems s windows d n)
+  own-fresh : (d n : ℕ) → d + n ≤ 16 → Fresh c (wordsOf (ownItems s windows d n))
   unfolding ownItems ofChannel
-  own-fresh d zero = refl
-  own-fresh d (suc n) = part-fresh (ownItems s windows (d + 1) n) (items-part c d s (windows d)) (own-fresh (d + 1) n)
+  own-fresh d zero h = refl
+  own-fresh d (suc n) h =
+      rw (words-append (itemsFor s d (windows d)) (ownItems s windows (d + 1) n))
+      (part-fresh (wordsOf (ownItems s windows (d + 1) n)) (items-part c d (omega arith) s (windows d)) (own-fresh (d + 1) n (omega arith)))
 
-  own-step : (d n : ℕ) → ofChannel c false (ownItems s windows d (suc n)) ≡ cond (eqb d c) (itemsFor s d (windows d)) [] ++ ofChannel c false (ownItems s windows (d + 1) n)
+  own-step : (d n : ℕ) → d + suc n ≤ 16
+      → ofChannel c false (wordsOf (ownItems s windows d (suc n))) ≡ cond (eqb d c) (wordsOf (itemsFor s d (windows d))) [] ++ ofChannel c false (wordsOf (ownItems s windows (d + 1) n))
   unfolding ownItems
-  own-step d n = items-part c d s (windows d) .pick false (ownItems s windows (d + 1) n) (own-fresh (d + 1) n)
+  own-step d n h =
+      rw (words-append (itemsFor s d (windows d)) (ownItems s windows (d + 1) n))
+      (items-part c d (omega arith) s (windows d) .pick false (wordsOf (ownItems s windows (d + 1) n)) (own-fresh (d + 1) n (omega arith)))
 
-  own-behind : (d n : ℕ) → c < d → ofChannel c false (ownItems s windows d n) ≡ []
+  -- c is none of them
+  own-none : (d n : ℕ) → d + n ≤ 16 → ((i : ℕ) → i < n → d + i ≡ c → ⊥) → ofChannel c false (wordsOf (ownItems s windows d n)) ≡ []
   unfolding ownItems ofChannel
-  own-behind d zero h = refl
-  own-behind d (suc n) h =
-      let m : (d ≡ c → ⊥) = λ e. omega arith in
-      own-step d n ∙ rw (ne-eqb d c m) (own-behind (d + 1) n (omega arith))
+  own-none d zero k h = refl
+  own-none d (suc n) k h =
+      let m : (d ≡ c → ⊥) = λ e. h 0 (omega arith) (omega arith) in
+      own-step d n k ∙ rw (ne-eqb d c m) (own-none (d + 1) n (omega arith) (λ i l e. h (suc i) (omega arith) (omega arith)))
 
-  own-at : (d n : ℕ) → d ≤ c → c < d + n → ofChannel c false (ownItems s windows d n) ≡ itemsFor s c (windows c)
-  own-at d zero h l = absurd (omega arith)
-  own-at d (suc n) h l = own-step d n ∙ go (eqb d c) refl (λ k. own-at (d + 1) n k (omega arith))
+  own-at : (d n : ℕ) → d + n ≤ 16 → d ≤ c → c < d + n → ofChannel c false (wordsOf (ownItems s windows d n)) ≡ wordsOf (itemsFor s c (windows c))
+  own-at d zero k h l = absurd (omega arith)
+  own-at d (suc n) k h l = own-step d n k ∙ go (eqb d c) refl (λ j. own-at (d + 1) n (omega arith) j (omega arith))
     where
-      go : (b : Bool) → eqb d c ≡ b → (d + 1 ≤ c → ofChannel c false (ownItems s windows (d + 1) n) ≡ itemsFor s c (windows c))
-          → cond b (itemsFor s d (windows d)) [] ++ ofChannel c false (ownItems s windows (d + 1) n) ≡ itemsFor s c (windows c)
+      go : (b : Bool) → eqb d c ≡ b → (d + 1 ≤ c → ofChannel c false (wordsOf (ownItems s windows (d + 1) n)) ≡ wordsOf (itemsFor s c (windows c)))
+          → cond b (wordsOf (itemsFor s d (windows d))) [] ++ ofChannel c false (wordsOf (ownItems s windows (d + 1) n)) ≡ wordsOf (itemsFor s c (windows c))
       go true e r =
-          let k : d ≡ c = eqb-true d c e in
-          ap (λ (l : List Item). itemsFor s d (windows d) ++ l) (own-behind (d + 1) n (omega arith)) ∙ (append-nil (itemsFor s d (windows d)) ∙ ap (λ (j : ℕ). itemsFor s j (windows j)) k)
+          let j : d ≡ c = eqb-true d c e in
+          ap (λ (l : List ℕ). wordsOf (itemsFor s d (windows d)) ++ l) (own-none (d + 1) n (omega arith) (λ i k z. omega arith))
+          ∙ (append-nil (wordsOf (itemsFor s d (windows d))) ∙ ap (λ (i : ℕ). wordsOf (itemsFor s i (windows i))) j)
       go false e r = r (omega (arith, eqb-false d c e))
 
+  own-picked : (16 ≤ c → windows c ≡ []) → ofChannel c false (wordsOf (ownItems s windows 0 16)) ≡ wordsOf (itemsFor s c (windows c))
+  own-picked w =
+      elim (decLt c 16) [
+        | yes k ↦ own-at 0 16 (omega arith) (omega arith) k
+        | no k ↦ own-none 0 16 (omega arith) (λ i l z. omega (arith, k)) ∙ sym (ap (λ (ws : List (List ℕ)). wordsOf (itemsFor s c ws)) (w (omega (arith, k))))
+      ]
+
 -- the event's header and time words are no channel's
-head-part : (c slot number times time : ℕ) (rest : List Item) → ofChannel c false (I.Event (record { slot = slot; number = number }) ∷ (timeItems times time ++ rest)) ≡ ofChannel c false rest
-unfolding ofChannel timeItems
-head-part c slot number times time rest = go (leb 1 times) (leb 2 times) (I.Clock _) (I.ClockHigh _) refl refl
+head-part : (c slot number times time : ℕ) (xs : List Item)
+    → ofChannel c false (wordsOf (I.Event (record { slot = slot; number = number }) ∷ (timeItems times time ++ xs))) ≡ ofChannel c false (wordsOf xs)
+unfolding ofChannel timeItems wordOf W.eventHeader W.triggerTime W.triggerTimeHigh
+head-part c slot number times time xs =
+    let e : isOwn c false (wordOf (I.Event (record { slot = slot; number = number }))) ≡ false =
+    defined c false 2 (slot % 32 / 2) (slot % 2 * 4194304 + number % 4194304) (omega arith) (omega arith) (omega arith) (omega arith) in
+    let m : ℕ = time / 16777216 % 8 in
+    let l : ℕ = time % 16777216 in
+    let x : isOwn c false (wordOf (I.Clock (record { middle = m; low = l }))) ≡ false =
+    defined c false 3 (m * 2 + l / 8388608) (l % 8388608) (omega arith) (omega arith) (omega arith) (omega arith) in
+    let y : isOwn c false (wordOf (I.ClockHigh (record { high = time / 16777216 }))) ≡ false = continued c false (omega arith) in
+    rw e (go (leb 1 times) (leb 2 times) (I.Clock _) (I.ClockHigh _) x y)
   where
-    go : (a b : Bool) (x y : Item) → isOwn c false x ≡ false → isOwn c false y ≡ false → ofChannel c false ((cond a (x ∷ []) [] ++ cond b (y ∷ []) []) ++ rest) ≡ ofChannel c false rest
+    go : (a b : Bool) (x y : Item) → isOwn c false (wordOf x) ≡ false → isOwn c false (wordOf y) ≡ false
+        → ofChannel c false (wordsOf ((cond a (x ∷ []) [] ++ cond b (y ∷ []) []) ++ xs)) ≡ ofChannel c false (wordsOf xs)
     go true true x y h k = rw (h, k)
     go true false x y h k = rw h
     go false true x y h k = rw k
     go false false x y h k = refl
 
--- ---- what a close after the posts writes
+-- ---- what the close wrote
 
--- channel c's records are those of its own posted window, and there are none where it has none
-pub own-records : (b : Bench) (l : List Post) (c : ℕ) → JustOpened b → Apart l → c < 16 → writtenFor b l c ≡ itemsFor (b .state .settings) c (windowFor b l c)
-own-records b l c o a h =
-    ap (ofChannel c false) (own-words b l o a)
-    ∙ (head-part c (b .state .settings .slot) (b .state .event) (b .state .settings .times) (b .state .time) (ownItems (b .state .settings) (windowFor b l) 0 16)
-    ∙ own-at (b .state .settings) (windowFor b l) c 0 16 (omega arith) h)
+-- the words between the two counts are those of the event's records
+closed-words : (e : EventRun) → closedWords e ≡ wordsOf (closingItems (e .end .state) (e .end .store))
+unfolding withClosed
+closed-words e =
+    let s = e .end .state in
+    let xs : List Item = closingItems s (e .end .store) in
+    let n : closeNumber s (e .end .store) (length (e .words)) ≡ 0 = sym (e .says .refusal) ∙ e .accepted in
+    let a = close-accepted s (e .end .store) (length (e .words)) n in
+    let count : e .answer .state .words ≡ s .words + length xs = ap (λ (t : State). t .words) (e .says .state ∙ done _ _ n) in
+    let size : e .answer .state .words - s .words ≡ length (wordsOf xs) = omega (arith, length-words xs) in
+    ap₂ (λ (k : ℕ) (l : List ℕ). take k (drop (s .words) l)) size (e .says .buffer ∙ done _ _ n)
+    ∙ row-same (e .words) (s .words) (wordsOf xs) (omega (arith, a .fit))
 
--- "a channel's words depend on its own posted window, its own threshold and the common settings alone": two runs that agree on these, and may differ
--- in all else: other windows and thresholds, the store before, the order and number of posts, the event's number and time, the other settings
-pub own-alone : (b b′ : Bench) (l l′ : List Post) (c : ℕ) → JustOpened b → JustOpened b′ → Apart l → Apart l′ → c < 16
-    → commonOf (b .state .settings) ≡ commonOf (b′ .state .settings)
-    → getD (b .state .settings .thresholds) c 0 ≡ getD (b′ .state .settings .thresholds) c 0
-    → windowFor b l c ≡ windowFor b′ l′ c
-    → writtenFor b l c ≡ writtenFor b′ l′ c
-own-alone b b′ l l′ c o o′ a a′ h s t w =
-    own-records b l c o a h ∙ (ap (itemsFor (b .state .settings) c) w ∙ (go (windowFor b′ l′ c) ∙ sym (own-records b′ l′ c o′ a′ h)))
+-- channel c's words are those of its own posted window
+own-by : (e : EventRun) (c : ℕ) → wordsFor e c ≡ wordsOf (itemsFor (settingsIn e) c (windowOf (e .answers) c))
+own-by e c =
+    let b = e .start in
+    let r = run-posts (e .apart) (e .posted) in
+    let xs : List Item = ownItems (b .state .settings) (windowFor b (e .posts)) 0 16 in
+    ap (ofChannel c false) (closed-words e ∙ ap wordsOf (ap (λ (t : Bench). closingItems (t .state) (t .store)) (r .0) ∙ own-records b (e .posts) (e .opened) (e .apart)))
+    ∙ (head-part c (b .state .settings .slot) (b .state .event) (b .state .settings .times) (b .state .time) xs
+    ∙ (own-picked (b .state .settings) (windowFor b (e .posts)) c (window-out b (e .posts) c)
+    ∙ ap (λ (ns : List (Post × ℕ)). wordsOf (itemsFor (b .state .settings) c (windowOf ns c))) (sym (r .1))))
+
+-- ---- the demand
+
+-- "a channel's words depend on its own posted window, its own threshold and the common settings": they are the words of these
+pub own-words : (e : EventRun) (c : ℕ) (w : List ℕ) → windowOf (e .answers) c ≡ w ∷ []
+    → wordsFor e c ≡ channelWords (commonOf (settingsIn e)) (getD (settingsIn e .thresholds) c 0) c w
+own-words e c w k = own-by e c ∙ ap (λ (ws : List (List ℕ)). wordsOf (itemsFor (settingsIn e) c ws)) k
+
+-- "A channel with no posted window has no words."
+pub no-window : (e : EventRun) (c : ℕ) → windowOf (e .answers) c ≡ [] → wordsFor e c ≡ []
+no-window e c k = own-by e c ∙ ap (λ (ws : List (List ℕ)). wordsOf (itemsFor (settingsIn e) c ws)) k
+
+-- ".. and on nothing in other channels or left in the store before": two events that agree on these have the same words for c, and may differ in all
+-- else: other windows and thresholds, the store before, the order and number of posts, the event's number and time, the other settings, the buffer
+pub own-alone : (e f : EventRun) (c : ℕ)
+    → commonOf (settingsIn e) ≡ commonOf (settingsIn f)
+    → getD (settingsIn e .thresholds) c 0 ≡ getD (settingsIn f .thresholds) c 0
+    → windowOf (e .answers) c ≡ windowOf (f .answers) c
+    → wordsFor e c ≡ wordsFor f c
+own-alone e f c s t k =
+    own-by e c ∙ (ap (λ (ws : List (List ℕ)). wordsOf (itemsFor (settingsIn e) c ws)) k ∙ (go (windowOf (f .answers) c) ∙ sym (own-by f c)))
   where
-    go : (ws : List (List ℕ)) → itemsFor (b .state .settings) c ws ≡ itemsFor (b′ .state .settings) c ws
+    go : (ws : List (List ℕ)) → wordsOf (itemsFor (settingsIn e) c ws) ≡ wordsOf (itemsFor (settingsIn f) c ws)
     go [] = refl
-    go (x ∷ ws) = ap₂ (λ (common : Common) (threshold : ℕ). channelItems common threshold c x) s t
-
--- "no posted window, no words"
-pub no-window : (b : Bench) (l : List Post) (c : ℕ) → JustOpened b → Apart l → c < 16 → windowFor b l c ≡ [] → writtenFor b l c ≡ []
-no-window b l c o a h e = own-records b l c o a h ∙ ap (itemsFor (b .state .settings) c) e
+    go (x ∷ ws) = ap₂ (λ (common : Common) (threshold : ℕ). channelWords common threshold c x) s t

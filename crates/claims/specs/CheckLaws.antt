@@ -20,11 +20,11 @@ use Rattle.claims.specs.Bytes.{bytesOfWords}
 use Rattle.claims.specs.Run.{Run}
 use Rattle.claims.specs.RunLaws.{run-checks}
 
-words-back : (ws : List ℕ) → AllWords ws → wordsOfBytes (bytesOfWords ws) ≡ ws
+pub words-back : (ws : List ℕ) → AllWords ws → wordsOfBytes (bytesOfWords ws) ≡ ws
 words-back [] h = refl
 words-back (w ∷ ws) h = ap₂ (λ (v : ℕ) (l : List ℕ). v ∷ l) (bytes-back w (h .0)) (words-back ws (h .1))
 
-four : (ws : List ℕ) → length (bytesOfWords ws) ≡ 4 * length ws
+pub four : (ws : List ℕ) → length (bytesOfWords ws) ≡ 4 * length ws
 four [] = refl
 four (w ∷ ws) = omega (arith, four ws)
 

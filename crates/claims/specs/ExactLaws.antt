@@ -1,25 +1,30 @@
--- Demand 2: a block is accepted exactly if it is the words of a well-formed tree's records, undefined bits of types 14 and 15 aside. Assumes nothing.
+-- Demand 2: a block is accepted exactly if it is the words of a well-formed tree's records, undefined bits of types 14 and 15 aside; whatever stands
+-- behind it, if the block ends there. Assumes nothing.
 use Prim.Native.Nat.{ℕ, _*_, _/_, _^_}
 use mathlib.Core.Path.{_≡_, refl, sym, ap, _∙_, subst}
 use mathlib.Core.Bool.{true}
-use mathlib.Core.List.{List, [], _∷_}
+use mathlib.Core.List.{List, [], _∷_, _++_, append-nil}
+use mathlib.Core.Logic.{_↔_}
 use native.Mathlib.Omega.{arith}
-use lib.ListN.{length}
+use lib.ListN.{length, take, drop, take-append-drop}
+use lib.Seq.{length-take-le, take-length}
 use Rattle.fields.specs.Word.{fieldAt, read}
 use Rattle.frame.specs.Words.{emptyOf, fillerOf}
 use Rattle.items.specs.Items.{wordOf, fits, formOf, cleanOf}
 use Rattle.items.specs.declared.Item.{Item}
 use Rattle.items.specs.declared.Item.the-variants as I
 use Rattle.reader.specs.declared.Scan.{Scan}
-use Rattle.reader.specs.Reader.{atLimit, startOf, after, then, Whole, endOf, readFrom}
+use Rattle.reader.specs.Reader.{startOf, after, then, just, Whole, Reading, readFrom}
+use Rattle.reader.specs.RunLaws.{items-le}
 use Rattle.claims.specs.FirstWrong.{records-before}
 use Rattle.claims.specs.NothingLost.{AllWords, Spell, nothing-lost}
-use Rattle.claims.specs.Layout.{Follow, IsBlock}
+use Rattle.claims.specs.Layout.{Follow}
 use Rattle.claims.specs.LayoutLaws.{Says, says, read-step, behind}
 use Rattle.claims.specs.AcceptedLaws.{accepted-block}
-use Rattle.claims.specs.Grammar.{recordsOf, Spelt, SpeltTree}
+use Rattle.claims.specs.Grammar.{Tree, block, empty, recordsOf, Spelt, SpeltTree, Ends, no-filler, one-word, Front}
 use Rattle.claims.specs.GrammarLaws.{tree-is-block}
 use Rattle.claims.specs.ParseLaws.{Parsed, block-has-tree}
+use Rattle.claims.specs.EndsLaws.{ends-there, there-ends, whole-behind}
 
 -- ---- a word with undefined bits
 
@@ -62,46 +67,66 @@ says-clean (I.Filler r) w h e =
 
 -- ---- all words
 
-read-spelt : (s : Scan) (xs : List Item) (ws : List ℕ) → Follow s xs → Spelt xs ws → readFrom s ws ≡ record { items = xs; out = Whole (behind s xs .place) }
-unfolding readFrom endOf atLimit
-read-spelt s [] [] h p = rw h
-read-spelt s [] (w ∷ ws) h p = absurd p
-read-spelt s (x ∷ xs) [] h p = absurd p
-read-spelt s (x ∷ xs) (w ∷ ws) h p = read-step s x w ws (says-clean x w (h .0 .widths) (p .0)) (h .0) ∙ ap (then x) (read-spelt (after s x) xs ws (h .1) (p .1))
+-- records that stand one after the other, spelt by the words in front; the run ends behind them
+read-spelt : (s : Scan) (xs : List Item) (us rest : List ℕ) → Follow s xs → Spelt xs us → readFrom (behind s xs) rest ≡ just (Whole (behind s xs .place))
+    → readFrom s (us ++ rest) ≡ record { items = xs; out = Whole (behind s xs .place) }
+read-spelt s [] [] rest h p e = e
+read-spelt s [] (w ∷ us) rest h p e = absurd p
+read-spelt s (x ∷ xs) [] rest h p e = absurd p
+read-spelt s (x ∷ xs) (w ∷ us) rest h p e = read-step s x w (us ++ rest) (says-clean x w (h .0 .widths) (p .0)) (h .0) ∙ ap (then x) (read-spelt (after s x) xs us rest (h .1) (p .1) e)
 
-spelt-length : (xs : List Item) (ws : List ℕ) → Spelt xs ws → length xs ≡ length ws
+pub spelt-length : (xs : List Item) (ws : List ℕ) → Spelt xs ws → length xs ≡ length ws
 spelt-length [] [] p = refl
 spelt-length [] (w ∷ ws) p = absurd p
 spelt-length (x ∷ xs) [] p = absurd p
 spelt-length (x ∷ xs) (w ∷ ws) p = omega (arith, spelt-length xs ws (p .1))
 
-spell-all : (xs : List Item) (ws : List ℕ) → Spell xs ws → length xs ≡ length ws → Spelt xs ws
-spell-all [] [] p e = tt
-spell-all [] (w ∷ ws) p e = absurd (omega (arith, e))
-spell-all (x ∷ xs) [] p e = p
-spell-all (x ∷ xs) (w ∷ ws) p e = (p .0, spell-all xs ws (p .1) (omega (arith, e)))
+spell-front : (xs : List Item) (ws : List ℕ) → Spell xs ws → Spelt xs (take (length xs) ws)
+spell-front [] ws p = tt
+spell-front (x ∷ xs) [] p = p
+spell-front (x ∷ xs) (w ∷ ws) p = (p .0, spell-front xs ws (p .1))
 
--- accepted to the last word: then the words are those of records that stand as the layout asks
-accepted-is : (ws : List ℕ) → AllWords ws → (readFrom startOf ws) .out ≡ Whole (length ws) → IsBlock ((readFrom startOf ws) .items) × Spelt ((readFrom startOf ws) .items) ws
-accepted-is ws a e =
+-- ---- the layout said on its own, whatever follows
+
+-- a block's words with words behind that it ends before: read as the block's records, and of its own length
+pub followed : (us rest : List ℕ) (t : SpeltTree us) → Ends (t .tree) rest → readFrom startOf (us ++ rest) ≡ record { items = recordsOf (t .tree); out = Whole (length us) }
+followed us rest t e =
+    let xs : List Item = recordsOf (t .tree) in
+    let r : readFrom startOf (us ++ rest) ≡ record { items = xs; out = Whole (behind startOf xs .place) } =
+    read-spelt startOf xs us rest (tree-is-block (t .tree) (t .formed)) (t .spelt) (ends-there (t .tree) rest e) in
+    let n : behind startOf xs .place ≡ length xs = rw r at (records-before (us ++ rest)) in
+    r ∙ ap (λ (k : ℕ). record { items = xs; out = Whole k }) (n ∙ spelt-length xs us (t .spelt))
+
+pub front-read : (ws : List ℕ) (n : ℕ) (f : Front ws n) → readFrom startOf ws ≡ record { items = recordsOf (f .first .tree); out = Whole n }
+front-read ws n f =
+    ap (readFrom startOf) (sym (take-append-drop n ws)) ∙ followed (take n ws) (drop n ws) (f .first) (f .ends)
+    ∙ ap (λ (k : ℕ). record { items = recordsOf (f .first .tree); out = Whole k }) (length-take-le n ws (f .within))
+
+accepted-front : (ws : List ℕ) (n : ℕ) → AllWords ws → (readFrom startOf ws) .out ≡ Whole n → Front ws n
+accepted-front ws n a e =
     let xs : List Item = (readFrom startOf ws) .items in
-    let n : length ws ≡ length xs = rw e at (records-before ws) in
-    (accepted-block ws (length ws) e, spell-all xs ws (nothing-lost startOf ws a) (sym n))
+    let k : n ≡ length xs = rw e at (records-before ws) in
+    let p : Parsed xs = block-has-tree xs (accepted-block ws n e) in
+    let s : Spelt xs (take n ws) = subst (λ (m : ℕ). Spelt xs (take m ws)) (sym k) (spell-front xs ws (nothing-lost startOf ws a)) in
+    let b : readFrom (behind startOf xs) (drop n ws) ≡ just (Whole n) = subst (λ (m : ℕ). readFrom (behind startOf xs) (drop m ws) ≡ just (Whole n)) (sym k) (whole-behind startOf ws n e) in
+    record {
+      within = omega (arith, k, items-le startOf ws);
+      first = record { tree = p .tree; formed = p .formed; spelt = subst (λ (ys : List Item). Spelt ys (take n ws)) (sym (p .are)) s };
+      ends = there-ends (p .tree) (drop n ws) n (p .formed .tree) (subst (λ (ys : List Item). readFrom (behind startOf ys) (drop n ws) ≡ just (Whole n)) (sym (p .are)) b);
+    }
 
--- and the other way: words of such records are accepted, and read as those records
-is-accepted : (ws : List ℕ) (xs : List Item) → IsBlock xs → Spelt xs ws → readFrom startOf ws ≡ record { items = xs; out = Whole (length ws) }
-is-accepted ws xs h p =
-    let r : readFrom startOf ws ≡ record { items = xs; out = Whole (behind startOf xs .place) } = read-spelt startOf xs ws h p in
-    let n : behind startOf xs .place ≡ length xs = rw r at (records-before ws) in
-    r ∙ ap (λ (k : ℕ). record { items = xs; out = Whole k }) (n ∙ spelt-length xs ws p)
+-- accepted with n words exactly if the first n words are a block that ends there
+pub accepted-exactly : (ws : List ℕ) (n : ℕ) → AllWords ws → ((readFrom startOf ws) .out ≡ Whole n) ↔ Front ws n
+accepted-exactly ws n a = (accepted-front ws n a, λ f. ap (λ (r : Reading). r .out) (front-read ws n f))
 
--- ---- the layout said on its own
+-- ---- a block alone
 
 pub accepted-tree : (ws : List ℕ) → AllWords ws → (readFrom startOf ws) .out ≡ Whole (length ws) → SpeltTree ws
-accepted-tree ws a e =
-    let h = accepted-is ws a e in
-    let p : Parsed ((readFrom startOf ws) .items) = block-has-tree _ (h .0) in
-    record { tree = p .tree; formed = p .formed; spelt = subst (λ (xs : List Item). Spelt xs ws) (sym (p .are)) (h .1) }
+accepted-tree ws a e = subst SpeltTree (take-length ws) (accepted-front ws (length ws) a e .first)
+
+pub alone : (t : Tree) → Ends t []
+alone (block b) = no-filler tt
+alone (empty r) = one-word
 
 pub tree-accepted : (ws : List ℕ) (t : SpeltTree ws) → readFrom startOf ws ≡ record { items = recordsOf (t .tree); out = Whole (length ws) }
-tree-accepted ws t = is-accepted ws (recordsOf (t .tree)) (tree-is-block (t .tree) (t .formed)) (t .spelt)
+tree-accepted ws t = ap (readFrom startOf) (sym (append-nil ws)) ∙ followed ws [] t (alone (t .tree))

@@ -1,5 +1,5 @@
 -- Demand 2: "a block that breaks the layout is refused at its first wrong word": a refusal at place p depends on the words up to p alone, and the
--- records before it are those of the words before p. Assumes nothing.
+-- records before it are those of the words before p (which word that is, `WrongLaws` says). Assumes nothing.
 use Prim.Native.Nat.{ℕ, zero, suc, _+_, _-_, _^_, _≤_, _<_}
 use mathlib.Core.Path.{_≡_, refl, sym, ap, _∙_}
 use mathlib.Core.Bool.{Bool, true, false, cond, true≢false}
@@ -22,26 +22,25 @@ use Rattle.reader.specs.declared.Step.the-variants as S
 use Rattle.reader.specs.declared.Judged.{Judged}
 use Rattle.reader.specs.declared.Judged.the-variants as J
 use Rattle.reader.specs.Reader.{formIn, formAt, unfinished, atLimit, isEnd, onward, paired, filled, phaseAfter, after, stepAt, withItem, judgeAt, startOf, Out, Whole, Broken, endOf, then, onJudged, readFrom}
-use Rattle.reader.specs.ReaderLaws.{Accepted, accepted}
+use Rattle.reader.specs.ReaderLaws.{Accepted, accepted, refused-here}
 
--- a run that stops before the end of its input is the same on every input that begins alike, up to the word where it stops
-same-start : (s : Scan) (x y : List ℕ) → length ((readFrom s x) .items) < length x
-    → take (suc (length ((readFrom s x) .items))) y ≡ take (suc (length ((readFrom s x) .items))) x → readFrom s y ≡ readFrom s x
+-- a run is the same on every input that begins alike, up to the word where it stops; where it stops at the input's end, that ends there too
+same-start : (s : Scan) (x y : List ℕ) → take (suc (length ((readFrom s x) .items))) y ≡ take (suc (length ((readFrom s x) .items))) x → readFrom s y ≡ readFrom s x
 unfolding readFrom
-same-start s [] y h e = absurd (omega arith)
-same-start s (w ∷ x) [] h e = let z : _≡_ {A = ℕ} 0 1 = cc in absurd (omega arith)
-same-start s (w ∷ x) (v ∷ y) h e =
+same-start s [] [] e = refl
+same-start s [] (v ∷ y) e = let z : _≡_ {A = ℕ} 0 1 = cc in absurd (omega arith)
+same-start s (w ∷ x) [] e = let z : _≡_ {A = ℕ} 0 1 = cc in absurd (omega arith)
+same-start s (w ∷ x) (v ∷ y) e =
     let q : v ≡ w = cc in
     let r : take (length ((readFrom s (w ∷ x)) .items)) y ≡ take (length ((readFrom s (w ∷ x)) .items)) x = cc in
-    ap (λ (u : ℕ). onJudged (judgeAt s u) (s .place) (λ t. readFrom t y)) q ∙ go (judgeAt s w) h r (λ t. same-start t x y)
+    ap (λ (u : ℕ). onJudged (judgeAt s u) (s .place) (λ t. readFrom t y)) q ∙ go (judgeAt s w) r (λ t. same-start t x y)
   where
-    go : (j : Judged) → length ((onJudged j (s .place) (λ t. readFrom t x)) .items) < length (w ∷ x)
-        → take (length ((onJudged j (s .place) (λ t. readFrom t x)) .items)) y ≡ take (length ((onJudged j (s .place) (λ t. readFrom t x)) .items)) x
-        → ((t : Scan) → length ((readFrom t x) .items) < length x → take (suc (length ((readFrom t x) .items))) y ≡ take (suc (length ((readFrom t x) .items))) x → readFrom t y ≡ readFrom t x)
+    go : (j : Judged) → take (length ((onJudged j (s .place) (λ t. readFrom t x)) .items)) y ≡ take (length ((onJudged j (s .place) (λ t. readFrom t x)) .items)) x
+        → ((t : Scan) → take (suc (length ((readFrom t x) .items))) y ≡ take (suc (length ((readFrom t x) .items))) x → readFrom t y ≡ readFrom t x)
         → onJudged j (s .place) (λ t. readFrom t y) ≡ onJudged j (s .place) (λ t. readFrom t x)
-    go (J.Took a t) h r n = ap (then a) (n t (omega arith) r)
-    go (J.Refused k) h r n = refl
-    go J.Ended h r n = refl
+    go (J.Took a t) r n = ap (then a) (n t r)
+    go (J.Refused k p) r n = refl
+    go J.Ended r n = refl
 
 -- ---- places count the words
 
@@ -185,7 +184,7 @@ place-within s (w ∷ ws) p = go (stepAt s w) refl (λ t. place-within t ws)
   where
     go : (j : Step) → stepAt s w ≡ j → ((t : Scan) → Placed t → placeOf ((readFrom t ws) .out) ≤ 4194306) → placeOf ((onJudged (withItem w j) (s .place) (λ t. readFrom t ws)) .out) ≤ 4194306
     go (S.Went f t) e n = n t (placed-after s w f t p (accepted s w e))
-    go (S.Refused k) e n = omega arith
+    go (S.Refused k q) e n = omega (arith, refused-here s w e)
     go S.Ended e n = omega arith
 
 -- the place where a run ends, refused or not, is the number of the records read before it; from any scan, if it is not the largest place
@@ -198,20 +197,19 @@ place-counts s (w ∷ ws) p = go (stepAt s w) refl (λ t. place-counts t ws) p
         → placeOf ((onJudged (withItem w j) (s .place) (λ t. readFrom t ws)) .out) < 2 ^ 32 - 1
         → placeOf ((onJudged (withItem w j) (s .place) (λ t. readFrom t ws)) .out) ≡ s .place + length ((onJudged (withItem w j) (s .place) (λ t. readFrom t ws)) .items)
     go (S.Went f t) e n p = omega (arith, n t p, ap (λ (u : Scan). u .place) (accepted s w e .scan))
-    go (S.Refused k) e n p = omega arith
+    go (S.Refused k q) e n p = omega (arith, refused-here s w e)
     go S.Ended e n p = omega arith
 
 -- below the largest place from a block's start on
 pub place-small : (x : List ℕ) → placeOf ((readFrom startOf x) .out) < 2 ^ 32 - 1
 place-small x = omega (arith, place-within startOf x (omega arith))
 
--- "refused at its first wrong word": every input with the same first p + 1 words has the same records before and the same number at p
-pub first-wrong-word : (x y : List ℕ) (n p : ℕ) → (readFrom startOf x) .out ≡ Broken n p → p < length x → take (suc p) y ≡ take (suc p) x
-    → readFrom startOf y ≡ readFrom startOf x
-first-wrong-word x y n p e h q =
-    let c : p ≡ length ((readFrom startOf x) .items) = sym (ap placeOf e) ∙ place-counts startOf x (place-small x) ∙ omega arith in
-    same-start startOf x y (omega arith) (ap (λ (k : ℕ). take (suc k) y) (sym c) ∙ q ∙ ap (λ (k : ℕ). take (suc k) x) c)
-
 -- a record is a word: the records before a refusal, or of a whole block, are as many as the words before it
 pub records-before : (x : List ℕ) → placeOf ((readFrom startOf x) .out) ≡ length ((readFrom startOf x) .items)
 records-before x = place-counts startOf x (place-small x) ∙ omega arith
+
+-- "refused at its first wrong word": every input with the same first p + 1 words has the same records before and the same number at p
+pub first-wrong-word : (x y : List ℕ) (n p : ℕ) → (readFrom startOf x) .out ≡ Broken n p → take (suc p) y ≡ take (suc p) x → readFrom startOf y ≡ readFrom startOf x
+first-wrong-word x y n p e q =
+    let c : p ≡ length ((readFrom startOf x) .items) = sym (ap placeOf e) ∙ records-before x in
+    same-start startOf x y (ap (λ (k : ℕ). take (suc k) y) (sym c) ∙ q ∙ ap (λ (k : ℕ). take (suc k) x) c)

@@ -2,9 +2,10 @@
 -- reader is used here. Assumes nothing.
 use Prim.Native.Nat.{ℕ, zero, suc, _+_, _%_, _≤_}
 use mathlib.Core.Path.{_≡_}
-use mathlib.Core.Bool.{true}
+use mathlib.Core.Bool.{true, false}
 use mathlib.Core.List.{List, [], _∷_, _++_, map}
-use lib.ListN.{length}
+use lib.ListN.{length, take, drop}
+use Rattle.fields.specs.Tag.{isDefining}
 use Rattle.frame.specs.declared.block_header.BlockHeader.{BlockHeader}
 use Rattle.frame.specs.declared.parameters.Parameters.{Parameters}
 use Rattle.frame.specs.declared.trailer.BlockTrailer.{BlockTrailer}
@@ -201,3 +202,22 @@ pub record SpeltTree (ws : List ℕ) : Type 0 where
   pub tree : Tree
   pub formed : WellFormed tree
   pub spelt : Spelt (recordsOf tree) ws
+
+-- ---- words behind a block
+
+-- the words do not begin with a filler
+abbrev pub NoFiller : List ℕ → Type 0
+NoFiller [] = Unit {0}
+NoFiller (w ∷ ws) = isDefining 15 w ≡ false
+
+-- "It ends after the third, at the input's end, or before a word that is no filler."; a module empty is "one word read"
+pub data Ends : Tree → List ℕ → Type 0 where
+  third : {b : BlockTree} {rest : List ℕ} → length (b .fillers) ≡ 3 → Ends (block b) rest
+  no-filler : {b : BlockTree} {rest : List ℕ} → NoFiller rest → Ends (block b) rest
+  one-word : {r : ModuleEmpty} {rest : List ℕ} → Ends (empty r) rest
+
+-- the first n words are a block, and it ends there
+pub record Front (ws : List ℕ) (n : ℕ) : Type 0 where
+  pub within : n ≤ length ws
+  pub first : SpeltTree (take n ws)
+  pub ends : Ends (first .tree) (drop n ws)

@@ -1,4 +1,5 @@
 pub mod Refused
+pub mod Wrong
 pub mod Tables
 pub mod Order
 pub mod OrderLaws
@@ -9,11 +10,13 @@ pub mod Grammar
 pub mod Layout
 pub mod NothingLost
 pub mod FirstWrong
+pub mod WrongLaws
 pub mod LayoutLaws
 pub mod AcceptedLaws
 pub mod PassLaws
 pub mod GrammarLaws
 pub mod ParseLaws
+pub mod EndsLaws
 pub mod ExactLaws
 pub mod Run
 pub mod WrittenLaws
@@ -26,4 +29,11 @@ pub mod Bytes
 pub mod CheckLaws
 pub mod Runs
 pub mod BenchRuns
+pub mod FollowedLaws
+pub mod FromC
+pub mod FromCLaws
+pub mod CRunLaws
 pub mod Unique
+pub mod Ties
+pub mod FieldEnds
+pub mod FieldEndsLaws

@@ -197,7 +197,7 @@ nothing-lost s (w ∷ ws) a = go (stepAt s w) refl (λ t. nothing-lost t ws (a .
     go : (j : Step) → stepAt s w ≡ j → ((t : Scan) → Spell ((readFrom t ws) .items) ws)
         → Spell ((onJudged (withItem w j) (s .place) (λ t. readFrom t ws)) .items) (w ∷ ws)
     go (S.Went f t) e n = (took s w f t (a .0) (accepted s w e), n t)
-    go (S.Refused k) e n = tt
+    go (S.Refused k p) e n = tt
     go S.Ended e n = tt
 
 -- the same words, but for the undefined bits of the records that have some

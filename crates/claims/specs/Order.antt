@@ -1,14 +1,13 @@
--- Demand 3, what is said: "In one event, posts for different channels in any order give the same answers, state and store." Assumes nothing.
+-- Demand 3, what is said: "In one event, just opened, let windows for different channels be posted in any order into one store that nobody else writes."
+-- Assumes nothing.
 use Prim.Native.Nat.{ℕ}
 use mathlib.Core.Logic.{_≢_}
-use mathlib.Core.Bool.{true}
 use mathlib.Core.List.{List, [], _∷_}
-use lib.ListN.{length, set}
-use Rattle.ground.specs.Order.{Pairwise, steps}
-use Rattle.ground.specs.Splice.{splice}
+use Rattle.ground.specs.Order.{Pairwise}
+use Rattle.settings.specs.Refusal.{numberOf}
 use Rattle.writer.specs.declared.State.{State}
-use Rattle.writer.specs.State.{withMark}
-use Rattle.writer.specs.Calls.{ifAccepted, rowStart, postNumber}
+use Rattle.writer.specs.declared.Answer.{Answer}
+use Rattle.writer.specs.Calls.{PostSays}
 
 -- the state and the store then lent
 pub record Bench : Type 0 where
@@ -19,28 +18,12 @@ pub record Post : Type 0 where
   pub channel : ℕ
   pub window : List ℕ
 
--- the number that a post is answered
-unfoldable pub answerOf : Bench → Post → ℕ
-answerOf b p = postNumber (b .state) (length (b .store)) (p .channel) (p .window)
-
--- what it leaves, as its contract says
-unfoldable pub after : Bench → Post → Bench
-after b p =
-    record {
-      state = ifAccepted (answerOf b p) (withMark (b .state) (set (b .state .posted) (p .channel) true)) (b .state);
-      store = ifAccepted (answerOf b p) (splice (b .store) (rowStart (b .state) (p .channel)) (p .window)) (b .store);
-    }
-
--- posts one after the other: what they leave, and each with its answer
-abbrev pub posts : Bench → List Post → Bench
-posts b ps = steps after b ps
-
-abbrev pub answered : Bench → Post → Post × ℕ
-answered b p = (p, answerOf b p)
-
-unfoldable pub answers : Bench → List Post → List (Post × ℕ)
-answers b [] = []
-answers b (p ∷ ps) = answered b p ∷ answers (after b p) ps
+-- posts one after the other, each as its contract says, from the state and store that the last one left; each with the number that it is answered
+pub data PostRun : Bench → List Post → List (Post × ℕ) → Bench → Type 0 where
+  none : {b : Bench} → PostRun b [] [] b
+  one : {b e : Bench} (p : Post) {l : List Post} {ns : List (Post × ℕ)} (r : Answer) (store′ : List ℕ)
+      → PostSays (b .state) (b .store) (p .channel) (p .window) r store′
+      → PostRun (record { state = r .state; store = store′ }) l ns e → PostRun b (p ∷ l) ((p, numberOf (r .refusal)) ∷ ns) e
 
 -- no two posts are for one channel
 abbrev pub Differ : Post → Post → Type 0

@@ -1,6 +1,6 @@
 -- Posts for different channels may come in any order. Assumes nothing.
 use Prim.Native.Nat.{ℕ, zero, suc, _+_, _*_, _≤_, _<_}
-use mathlib.Core.Path.{_≡_, refl, sym, ap, ap₂, _∙_}
+use mathlib.Core.Path.{_≡_, refl, sym, ap, ap₂, _∙_, subst}
 use mathlib.Core.Logic.{_≢_}
 use mathlib.Core.Bool.{Bool, true, false, false≢true}
 use mathlib.Core.List.{List, [], _∷_, map}
@@ -8,7 +8,7 @@ use native.Mathlib.Omega.{arith}
 use native.Mathlib.Decide.{decLt}
 use lib.ListN.{length, set}
 use lib.Seq.{set-comm, getD-set-other}
-use Rattle.ground.specs.Order.{Perm, ToEach}
+use Rattle.ground.specs.Order.{Perm, perm-nil, perm-cons, perm-swap, perm-trans, ToEach, steps}
 use Rattle.ground.specs.OrderLaws.{pairwise-perm, steps-perm}
 use Rattle.ground.specs.Splice.{splice}
 use Rattle.ground.specs.SpliceLaws.{length-splice, splice-comm}
@@ -18,13 +18,33 @@ use Rattle.writer.specs.declared.Phase.the-variants as P
 use Rattle.writer.specs.declared.State.{State}
 use Rattle.writer.specs.declared.Answer.{Answer}
 use Rattle.writer.specs.State.{phaseOk, stateOk, isEvent, withMark}
-use Rattle.writer.specs.Calls.{rowStart, postTable, postNumber, PostSays}
+use Rattle.writer.specs.Calls.{ifAccepted, rowStart, postTable, postNumber, PostSays}
 use Rattle.writer.specs.CallsLaws.{done, refused, PostAccepted, post-accepted, row-fits}
 use Rattle.event.specs.EventLaws.{row-end}
-use Rattle.claims.specs.Order.{Bench, Post, answerOf, after, posts, answered, answers, Differ, Apart}
+use Rattle.claims.specs.Order.{Bench, Post, PostRun, none, one, Differ, Apart}
+
+-- ---- posts by equations
+
+-- the number that a post is answered
+unfoldable pub answerOf : Bench → Post → ℕ
+answerOf b p = postNumber (b .state) (length (b .store)) (p .channel) (p .window)
+
+-- what it leaves
+unfoldable pub after : Bench → Post → Bench
+after b p =
+    record {
+      state = ifAccepted (answerOf b p) (withMark (b .state) (set (b .state .posted) (p .channel) true)) (b .state);
+      store = ifAccepted (answerOf b p) (splice (b .store) (rowStart (b .state) (p .channel)) (p .window)) (b .store);
+    }
+
+abbrev pub posts : Bench → List Post → Bench
+posts b ps = steps after b ps
+
+abbrev pub answered : Bench → Post → Post × ℕ
+answered b p = (p, answerOf b p)
 
 -- the contract of a post leaves exactly that
-pub post-after : (b : Bench) (p : Post) (r : Answer) (store′ : List ℕ) → PostSays (b .state) (b .store) (p .channel) (p .window) r store′
+post-after : (b : Bench) (p : Post) (r : Answer) (store′ : List ℕ) → PostSays (b .state) (b .store) (p .channel) (p .window) r store′
     → (numberOf (r .refusal) ≡ answerOf b p) × (record { state = r .state; store = store′ } ≡ after b p)
 unfolding answerOf after
 post-after b p r store′ h = (h .refusal, ap₂ (λ (s : State) (l : List ℕ). record { state = s; store = l }) (h .state) (h .rows))
@@ -126,14 +146,29 @@ answers-fresh : (b : Bench) (p : Post) (l : List Post) → ToEach Differ p l →
 answers-fresh b p [] f = refl
 answers-fresh b p (q ∷ l) f = ap₂ (λ (n : ℕ) (r : List (Post × ℕ)). (q, n) ∷ r) (number-after b p q (λ e. f .0 (sym e))) (answers-fresh b p l (f .1))
 
-answers-first : (b : Bench) (l : List Post) → Apart l → answers b l ≡ map (answered b) l
-unfolding answers
-answers-first b [] a = refl
-answers-first b (p ∷ l) a = ap (λ (r : List (Post × ℕ)). answered b p ∷ r) (answers-first (after b p) l (a .1) ∙ answers-fresh b p l (a .0))
+-- what posts as their contracts say leave and answer
+pub run-posts : {b e : Bench} {l : List Post} {ns : List (Post × ℕ)} → Apart l → PostRun b l ns e → (e ≡ posts b l) × (ns ≡ map (answered b) l)
+unfolding steps
+run-posts a none = (refl, refl)
+run-posts a (one {b} {e} p {l} {ns} r store′ h rest) =
+    let k = post-after b p r store′ h in
+    let i = run-posts (a .1) rest in (
+      i .0 ∙ ap (λ (t : Bench). posts t l) (k .1),
+      ap₂ (λ (n : ℕ) (xs : List (Post × ℕ)). (p, n) ∷ xs) (k .0) (i .1 ∙ (ap (λ (t : Bench). map (answered t) l) (k .1) ∙ answers-fresh b p l (a .0))),
+    )
 
--- "posts for different channels in any order give the same answers, state and store": each post is given the number that it is given first,
--- in both orders, and both end with the same state and store
-pub order : {l m : List Post} (b : Bench) → Apart l → Perm l m
-    → (posts b l ≡ posts b m) × ((answers b l ≡ map (answered b) l) × (answers b m ≡ map (answered b) m))
-order {l} {m} b a r =
-    (steps-perm Differ after back after-comm b r a, (answers-first b l a, answers-first b m (pairwise-perm Differ back r a)))
+perm-map : {A B : Type 0} (f : A → B) {l m : List A} → Perm l m → Perm (map f l) (map f m)
+perm-map f perm-nil = perm-nil
+perm-map f (perm-cons x r) = perm-cons (f x) (perm-map f r)
+perm-map f (perm-swap x y l) = perm-swap (f x) (f y) (map f l)
+perm-map f (perm-trans r s) = perm-trans (perm-map f r) (perm-map f s)
+
+-- "Each post is accepted, or refused with the same number, alike in every order, and the state and store at the end are the same": the posts with
+-- their numbers are the same in both orders. From any state and store, so from those of an event just opened
+pub order : {b e f : Bench} {l m : List Post} {ns ks : List (Post × ℕ)} → Apart l → Perm l m → PostRun b l ns e → PostRun b m ks f → Perm ns ks × (e ≡ f)
+order {b} {e} {f} {l} {m} {ns} {ks} a r x y =
+    let i = run-posts a x in
+    let j = run-posts (pairwise-perm Differ back r a) y in (
+      subst (λ (xs : List (Post × ℕ)). Perm xs ks) (sym (i .1)) (subst (λ (ys : List (Post × ℕ)). Perm (map (answered b) l) ys) (sym (j .1)) (perm-map (answered b) r)),
+      i .0 ∙ (steps-perm Differ after back after-comm b r a ∙ sym (j .0)),
+    )

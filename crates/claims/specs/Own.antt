@@ -1,63 +1,78 @@
--- Demand 3, what is said: "a channel's words depend on its own posted window, its own threshold and the common settings alone; no posted window, no
--- words." Assumes nothing.
-use Prim.Native.Nat.{ℕ, zero, suc, _+_}
+-- Demand 3, what is said: "If the event then closes, a channel's words depend on its own posted window, its own threshold and the common settings, and
+-- on nothing in other channels or left in the store before. A channel with no posted window has no words." Assumes nothing.
+use Prim.Native.Nat.{ℕ, _-_}
 use mathlib.Core.Path.{_≡_}
-use mathlib.Core.Bool.{Bool, true, false, _&&_, cond}
+use mathlib.Core.Bool.{Bool, false, _&&_, cond}
 use mathlib.Core.List.{List, [], _∷_, _++_}
 use lib.Dec.{eqb}
-use lib.ListN.{length, getD}
+use lib.ListN.{length, take, drop}
+use Rattle.ground.specs.Tests.{oneOf}
+use Rattle.fields.specs.Word.{read}
+use Rattle.fields.specs.Tag.{isContinuation}
 use Rattle.settings.specs.declared.Settings.{Settings}
-use Rattle.items.specs.declared.Item.{Item}
-use Rattle.items.specs.declared.Item.the-variants as I
-use Rattle.channel.specs.Channel.{commonOf, channelItems}
-use Rattle.writer.specs.State.{noMarks, isEvent}
-use Rattle.writer.specs.Calls.{closingItems}
-use Rattle.claims.specs.Order.{Bench, Post, answerOf, posts}
+use Rattle.settings.specs.Refusal.{numberOf}
+use Rattle.writer.specs.declared.State.{State}
+use Rattle.writer.specs.declared.Answer.{Answer}
+use Rattle.writer.specs.Calls.{OpenEventSays, CloseSays}
+use Rattle.claims.specs.Order.{Bench, Post, PostRun, Apart}
 
--- an event was just opened: nothing is posted in it
-pub record JustOpened (b : Bench) : Type 0 where
-  pub event : isEvent (b .state .phase) ≡ true
-  pub sixteen : length (b .state .posted) ≡ 16
-  pub unposted : noMarks (b .state .posted) ≡ true
+-- ---- one event, by the contracts of its calls
 
--- the window of channel c's accepted post, none where there was none
-unfoldable pub windowFor : Bench → List Post → ℕ → List (List ℕ)
-windowFor b [] c = []
-windowFor b (p ∷ ps) c = cond (eqb (p .channel) c && eqb (answerOf b p) 0) (p .window ∷ []) (windowFor b ps c)
+-- "In one event, just opened": the state is one that an accepted opening gave; its marks are the sixteen of the state's array
+pub record JustOpened (s : State) : Type 0 where
+  pub before : State
+  pub number : ℕ
+  pub time : ℕ
+  pub answer : Answer
+  pub says : OpenEventSays before number time answer
+  pub accepted : numberOf (answer .refusal) ≡ 0
+  pub sixteen : length (before .posted) ≡ 16
+  pub gave : s ≡ answer .state
 
--- what channel c writes for it: of the common settings, its own threshold, its number and that window
-abbrev pub itemsFor : Settings → ℕ → List (List ℕ) → List Item
-itemsFor s c [] = []
-itemsFor s c (w ∷ more) = channelItems (commonOf s) (getD (s .thresholds) c 0) c w
+-- the event opened, a store lent, whatever it holds; posts for different channels; an accepted close of what they leave
+pub record EventRun : Type 0 where
+  pub start : Bench
+  pub opened : JustOpened (start .state)
+  pub posts : List Post
+  pub apart : Apart posts
+  pub answers : List (Post × ℕ)
+  pub end : Bench
+  pub posted : PostRun start posts answers end
+  pub words : List ℕ
+  pub answer : Answer
+  pub words′ : List ℕ
+  pub says : CloseSays (end .state) (end .store) words answer words′
+  pub accepted : numberOf (answer .refusal) ≡ 0
 
--- n channels from c on, rising
-unfoldable pub ownItems : Settings → (ℕ → List (List ℕ)) → ℕ → ℕ → List Item
-ownItems s windows c zero = []
-ownItems s windows c (suc n) = itemsFor s c (windows c) ++ ownItems s windows (c + 1) n
+abbrev pub settingsIn : EventRun → Settings
+settingsIn e = e .start .state .settings
 
--- ---- a channel's records among those of an event
+-- channel c's posted window: that of its post with number 0; none where there is none
+unfoldable pub windowOf : List (Post × ℕ) → ℕ → List (List ℕ)
+windowOf [] c = []
+windowOf (a ∷ ns) c = cond (eqb (a .0 .channel) c && eqb (a .1) 0) (a .0 .window ∷ []) (windowOf ns c)
 
--- whether a record is channel c's: it names c, or it is a pair behind one that is (`own`: the record before is)
-abbrev pub isOwn : ℕ → Bool → Item → Bool
-isOwn c own (I.Block r) = false
-isOwn c own (I.Parameters r) = false
-isOwn c own (I.Trailer r) = false
-isOwn c own (I.Event r) = false
-isOwn c own (I.Clock r) = false
-isOwn c own (I.ClockHigh r) = false
-isOwn c own (I.Window r) = eqb (r .channel) c
-isOwn c own (I.Raw r) = eqb (r .channel) c
-isOwn c own (I.Pair r) = own
-isOwn c own (I.Integral r) = eqb (r .channel) c
-isOwn c own (I.Time r) = eqb (r .channel) c
-isOwn c own (I.Pedestal r) = eqb (r .channel) c
-isOwn c own (I.Empty r) = false
-isOwn c own (I.Filler r) = false
+-- ---- a channel's words
 
-unfoldable pub ofChannel : ℕ → Bool → List Item → List Item
+-- the words of the buffer that the close wrote: behind those counted before it, up to those counted after it
+abbrev pub closedWords : EventRun → List ℕ
+closedWords e = take (e .answer .state .words - e .end .state .words) (drop (e .end .state .words) (e .words′))
+
+-- "4 window: 26-23 channel", "6 pulse raw: 26-23 channel", and so 7, 8 and 10
+abbrev pub channelTypes : List ℕ
+channelTypes = 4 ∷ 6 ∷ 7 ∷ 8 ∷ 10 ∷ []
+
+abbrev pub names : ℕ → ℕ → Bool
+names c word = oneOf (read 30 27 word) channelTypes && eqb (read 26 23 word) c
+
+-- whether a word is channel c's: a defining word that names c; a continuation goes with the defining word before it, which is c's or not (`own`)
+unfoldable pub isOwn : ℕ → Bool → ℕ → Bool
+isOwn c own word = cond (isContinuation word) own (names c word)
+
+unfoldable pub ofChannel : ℕ → Bool → List ℕ → List ℕ
 ofChannel c own [] = []
-ofChannel c own (x ∷ xs) = cond (isOwn c own x) (x ∷ []) [] ++ ofChannel c (isOwn c own x) xs
+ofChannel c own (w ∷ ws) = cond (isOwn c own w) (w ∷ []) [] ++ ofChannel c (isOwn c own w) ws
 
--- channel c's records of what a close after the posts writes
-abbrev pub writtenFor : Bench → List Post → ℕ → List Item
-writtenFor b l c = ofChannel c false (closingItems (posts b l .state) (posts b l .store))
+-- channel c's words of the event
+abbrev pub wordsFor : EventRun → ℕ → List ℕ
+wordsFor e c = ofChannel c false (closedWords e)

@@ -1,9 +1,9 @@
--- A channel's words are those of its own posted window. Assumes nothing.
+-- What a close after posts writes, in closed form: for each channel, rising, the records of its own posted window. Assumes nothing.
 use Prim.Native.Nat.{ℕ, zero, suc, _+_, _*_, _≤_, _<_}
 use mathlib.Core.Path.{_≡_, refl, sym, ap, ap₂, _∙_, subst}
 use mathlib.Core.Logic.{_≢_}
-use mathlib.Core.Bool.{Bool, true, false, not, cond}
-use mathlib.Core.List.{List, [], _∷_, _++_}
+use mathlib.Core.Bool.{Bool, true, false, not, cond, _&&_}
+use mathlib.Core.List.{List, [], _∷_, _++_, map}
 use native.Mathlib.Omega.{arith}
 use borrow.Author.Tests.{eqb-true, eqb-false, eq-eqb, ne-eqb, not-true}
 use lib.Dec.{eqb}
@@ -18,11 +18,28 @@ use Rattle.items.specs.declared.Item.the-variants as I
 use Rattle.channel.specs.Channel.{commonOf, channelItems}
 use Rattle.event.specs.Event.{row, timeItems, channelsItems, eventItems}
 use Rattle.event.specs.EventLaws.{row-end, channelAt, channels-step, channels-end}
-use Rattle.writer.specs.State.{noMarks, withMark}
+use Rattle.writer.specs.declared.State.{State}
+use Rattle.writer.specs.State.{noMarks, withEvent, withMark}
 use Rattle.writer.specs.Calls.{closingItems}
-use Rattle.claims.specs.Order.{Bench, Post, answerOf, after, posts, Differ, Apart}
-use Rattle.claims.specs.OrderLaws.{zero-or, either-way, marked, left, has, after-done, after-refused, fits, number-after}
-use Rattle.claims.specs.Own.{JustOpened, windowFor, itemsFor, ownItems}
+use Rattle.writer.specs.CallsLaws.{done, open-event-accepted}
+use Rattle.writer.specs.StateLaws.{block-says}
+use Rattle.claims.specs.Order.{Bench, Post, Differ, Apart}
+use Rattle.claims.specs.OrderLaws.{answerOf, after, posts, answered, zero-or, either-way, marked, left, has, after-done, after-refused, fits, number-after}
+use Rattle.claims.specs.Own.{JustOpened, windowOf}
+
+-- the window that channel c posts of a list, each post answered as if it came first
+abbrev pub windowFor : Bench → List Post → ℕ → List (List ℕ)
+windowFor b l c = windowOf (map (answered b) l) c
+
+-- what channel c writes for it: of the common settings, its own threshold, its number and that window
+abbrev pub itemsFor : Settings → ℕ → List (List ℕ) → List Item
+itemsFor s c [] = []
+itemsFor s c (w ∷ more) = channelItems (commonOf s) (getD (s .thresholds) c 0) c w
+
+-- n channels from c on, rising
+unfoldable pub ownItems : Settings → (ℕ → List (List ℕ)) → ℕ → ℕ → List Item
+ownItems s windows c zero = []
+ownItems s windows c (suc n) = itemsFor s c (windows c) ++ ownItems s windows (c + 1) n
 
 -- ---- what posts leave alone
 
@@ -92,12 +109,22 @@ part-kept b [] c n = refl
 part-kept b (p ∷ l) c n = part-kept (after b p) l c (n .1) ∙ part-after b p c (n .0)
 
 window-none : (b : Bench) (l : List Post) (c : ℕ) → NoneFor c l → windowFor b l c ≡ []
-unfolding windowFor
+unfolding windowOf
 window-none b [] c n = refl
 window-none b (p ∷ l) c n = rw (ne-eqb (p .channel) c (λ e. n .0 (sym e))) (window-none b l c (n .1))
 
+-- no post for a channel over 15 is accepted
+pub window-out : (b : Bench) (l : List Post) (c : ℕ) → 16 ≤ c → windowFor b l c ≡ []
+unfolding windowOf
+window-out b [] c h = refl
+window-out b (p ∷ l) c h = go (eqb (p .channel) c) refl (window-out b l c h)
+  where
+    go : (t : Bool) → eqb (p .channel) c ≡ t → windowFor b l c ≡ [] → cond (t && eqb (answerOf b p) 0) (p .window ∷ []) (windowFor b l c) ≡ []
+    go true e i = rw (ne-eqb (answerOf b p) 0 (λ z. omega (arith, eqb-true (p .channel) c e, has b p z .channel))) i
+    go false e i = i
+
 window-after : (b : Bench) (p : Post) (l : List Post) (c : ℕ) → ToEach Differ p l → windowFor (after b p) l c ≡ windowFor b l c
-unfolding windowFor
+unfolding windowOf
 window-after b p [] c t = refl
 window-after b p (q ∷ l) c t = rw (number-after b p q (λ e. t .0 (sym e)), window-after b p l c (t .1))
 
@@ -125,7 +152,7 @@ mark-after b p c h =
 -- the first post is for channel c
 own-here : (b : Bench) (p : Post) (l : List Post) → let c = p .channel in c < length (b .state .posted) → getD (b .state .posted) c false ≡ false → NoneFor c l
     → partAt (posts (after b p) l) c ≡ itemsFor (b .state .settings) c (windowFor b (p ∷ l) c)
-unfolding windowFor
+unfolding windowOf
 own-here b p l h m n =
     part-kept (after b p) l (p .channel) n
     ∙ zero-or (answerOf b p)
@@ -134,9 +161,9 @@ own-here b p l h m n =
     ∙ rw (m, eq-eqb (p .channel) (p .channel) refl, ne-eqb (answerOf b p) 0 z, window-none b l (p .channel) n))
 
 module _ (c : ℕ) where
-  pub own-part : (b : Bench) (l : List Post) → c < length (b .state .posted) → getD (b .state .posted) c false ≡ false → Apart l
+  own-part : (b : Bench) (l : List Post) → c < length (b .state .posted) → getD (b .state .posted) c false ≡ false → Apart l
       → partAt (posts b l) c ≡ itemsFor (b .state .settings) c (windowFor b l c)
-  unfolding steps windowFor
+  unfolding steps windowOf
   own-part b [] h m a = rw m
   own-part b (p ∷ l) h m a = go (eqb (p .channel) c) refl (λ h′ m′. own-part (after b p) l h′ m′ (a .1))
     where
@@ -165,7 +192,19 @@ unmarked [] c h = refl
 unmarked (m ∷ ms) zero h = not-true m (and-left (not m) _ h)
 unmarked (m ∷ ms) (suc c) h = unmarked ms c (and-right (not m) _ h)
 
-own-channels : (b : Bench) (l : List Post) → JustOpened b → Apart l → (c n : ℕ) → c + n ≡ 16
+-- nothing is posted in an event just opened
+record Unposted (s : State) : Type 0 where
+  sixteen : length (s .posted) ≡ 16
+  none : noMarks (s .posted) ≡ true
+
+unposted : {s : State} → JustOpened s → Unposted s
+unfolding withEvent
+unposted o =
+    let n = sym (o .says .refusal) ∙ o .accepted in
+    let a = open-event-accepted (o .before) (o .number) (o .time) n in
+    subst Unposted (sym (o .gave ∙ (o .says .state ∙ done _ _ n))) (record { sixteen = o .sixteen; none = block-says (o .before) (a .state) (a .turn) .clear })
+
+own-channels : (b : Bench) (l : List Post) → Unposted (b .state) → Apart l → (c n : ℕ) → c + n ≡ 16
     → channelsItems (posts b l .state .settings) (posts b l .store) c (drop c (posts b l .state .posted)) ≡ ownItems (b .state .settings) (windowFor b l) c n
 unfolding ownItems
 own-channels b l o a c zero e =
@@ -173,16 +212,15 @@ own-channels b l o a c zero e =
 own-channels b l o a c (suc n) e =
     channels-step (posts b l .state .settings) (posts b l .store) (posts b l .state .posted) c (omega (arith, same-posts b l .marks, o .sixteen))
     ∙ ap₂ (λ (x y : List Item). x ++ y)
-    (own-part c b l (omega (arith, o .sixteen)) (unmarked (b .state .posted) c (o .unposted)) a)
+    (own-part c b l (omega (arith, o .sixteen)) (unmarked (b .state .posted) c (o .none)) a)
     (own-channels b l o a (c + 1) n (omega arith))
 
--- "a channel's words depend on its own posted window, its own threshold and the common settings alone": what a close after the posts writes is the
--- header, the time words, and for each channel, rising, the records of its own window; whatever the store held before
-pub own-words : (b : Bench) (l : List Post) → JustOpened b → Apart l
+-- the header, the time words, and for each channel, rising, the records of its own window; whatever the store held before
+pub own-records : (b : Bench) (l : List Post) → JustOpened (b .state) → Apart l
     → closingItems (posts b l .state) (posts b l .store)
     ≡ I.Event (record { slot = b .state .settings .slot; number = b .state .event })
     ∷ (timeItems (b .state .settings .times) (b .state .time) ++ ownItems (b .state .settings) (windowFor b l) 0 16)
 unfolding eventItems
-own-words b l o a =
+own-records b l o a =
     let s = same-posts b l in
-    rw (own-channels b l o a 0 16 refl, s .settings, s .event, s .time)
+    rw (own-channels b l (unposted o) a 0 16 refl, s .settings, s .event, s .time)

@@ -13,9 +13,11 @@ use Rattle.settings.specs.Ranges.{settingsOk}
 use Rattle.settings.specs.Refusal.{numberOf}
 use Rattle.finder.specs.Call.{findTable, findNumber, FindSays}
 use Rattle.finder.specs.declared.Answer as A
-use Rattle.items.specs.declared.Form.{Form}
 use Rattle.reader.specs.declared.Scan.{Scan}
-use Rattle.reader.specs.Reader.{refusals, refusalOf}
+use Rattle.reader.specs.declared.Step.{Step}
+use Rattle.reader.specs.declared.Judged.{Judged}
+use Rattle.reader.specs.Reader.{formAt, isEnd, refusals, refusalOf, endNumber}
+use Rattle.reader.specs.Answers.{stepNumber, judgedNumber, numberAt, StepSays, JudgedSays}
 use Rattle.writer.specs.declared.State.{State}
 use Rattle.writer.specs.declared.Answer.{Answer}
 use Rattle.writer.specs.declared.Finished.{Finished}
@@ -23,6 +25,7 @@ use Rattle.writer.specs.State.{stateOk}
 use Rattle.writer.specs.Calls.{ifAccepted, setUpNumber, openBlockTable, openBlockNumber, openEventTable, openEventNumber, postTable, postNumber, closeTable, closeNumber, finishTable, finishNumber, SetUpSays, OpenBlockSays, OpenEventSays, PostSays, CloseSays, FinishSays}
 use Rattle.writer.specs.CallsLaws.{done}
 use Rattle.writer.specs.StateLaws.{set-up-kept, open-block-kept, open-event-kept, post-kept, closing-kept, finish-kept}
+use Rattle.claims.specs.Wrong.{questions}
 
 -- ---- in the paper's order
 
@@ -68,9 +71,12 @@ pub find-order : (s : Settings) (c : ℕ) (w : List ℕ) → numbersOf (findTabl
 unfolding findTable
 find-order s c w = refl
 
--- the reader, "at each word, in this order" (11, no word left, is the end's)
-pub read-order : (s : Scan) (f : Form) (word : ℕ) → numbersOf (refusals s f word) ≡ 14 ∷ 12 ∷ 15 ∷ 13 ∷ 14 ∷ []
-read-order s f word = refl
+-- the reader, "at each word, in this order: 14 ..; 11 no word left; 12 ..; 15 ..; 13 ..; 14 .."
+pub end-order : (s : Scan) → numbersOf (questions s []) ≡ 14 ∷ 11 ∷ []
+end-order s = refl
+
+pub read-order : (s : Scan) (word : ℕ) (words : List ℕ) → isEnd (formAt s word) ≡ false → numbersOf (questions s (word ∷ words)) ≡ 14 ∷ 12 ∷ 15 ∷ 13 ∷ 14 ∷ []
+read-order s word words h = rw h
 
 -- ---- exactly when
 
@@ -114,10 +120,27 @@ pub find-exactly : (s : Settings) (c : ℕ) (w : List ℕ) (r : A.Answer) → Fi
 unfolding findNumber
 find-exactly s c w r h = exactly _ (h .refusal)
 
--- a word that the reader refuses
-pub read-exactly : (s : Scan) (f : Form) (word : ℕ) → Exactly (refusals s f word) (refusalOf s f word)
-unfolding refusalOf
-read-exactly s f word = exactly _ refl
+-- a word, from any scan
+asked : (s : Scan) (word : ℕ) (words : List ℕ) → numberAt s word ≡ firstOf (questions s (word ∷ words))
+unfolding numberAt refusalOf firstOf
+asked s word words = go (isEnd (formAt s word))
+  where
+    go : (b : Bool) → cond b 0 (firstOf (refusals s (formAt s word) word)) ≡ firstOf (cond b [] (refusals s (formAt s word) word))
+    go true = refl
+    go false = refl
+
+-- what `step` answers of it
+pub step-exactly : (s : Scan) (word : ℕ) (words : List ℕ) (r : Step) → StepSays s word r → Exactly (questions s (word ∷ words)) (stepNumber r)
+step-exactly s word words r h = exactly _ (h .number ∙ asked s word words)
+
+-- what `judge` answers
+pub judge-exactly : (s : Scan) (word : ℕ) (words : List ℕ) (r : Judged) → JudgedSays s word r → Exactly (questions s (word ∷ words)) (judgedNumber r)
+judge-exactly s word words r h = exactly _ (h .number ∙ asked s word words)
+
+-- what `at_end` answers of the input's end
+pub end-exactly : (s : Scan) (r : ℕ) → r ≡ endNumber s → Exactly (questions s []) r
+unfolding endNumber
+end-exactly s r e = exactly _ e
 
 -- ---- kept in range
 

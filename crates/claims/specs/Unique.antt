@@ -1,380 +1,493 @@
--- "show that two results allowed by it are equal": every public function, in the order of docs/STATEMENTS.md, with the statement that the code has.
--- A result is the answer and what is left of all that was lent. Assumes nothing.
-use Prim.Native.Nat.{ℕ, _≤_}
-use mathlib.Core.Path.{_≡_, ap}
-use mathlib.Core.Bool.{Bool}
-use mathlib.Core.List.{List, [], _∷_}
-use lib.Dec.{eqb}
+-- "show that two results allowed by it are equal": every public function, in the order of docs/STATEMENTS.md, by the statement that the code itself has.
+-- No `ensures` is quoted here: `ended` and `Reads.Learnt` come from the function's own proof, so a line of a function whose `ensures` allows two results is refused. Assumes nothing.
+use Prim.Native.Nat.{ℕ}
+use mathlib.Core.Path.{_≡_, refl}
+use mathlib.Core.List.{List}
+use contract.Lifetimes.{Lfts}
+use denote.Ref.{now}
+use denote.Triple.Entry.{Args, Res}
+use denote.Triple.Clauses.{Ended, Lasts, AtExit, atExit}
 use Rattle.ground.specs.Splice.{Written}
 use Rattle.ground.specs.ResultLaws.{one-result, one-writing}
-use Rattle.fields.specs.Word.{Field, fieldAt, putAt, pack, fit}
-use Rattle.fields.specs.Tag.{isDefining, isContinuation}
-use Rattle.fields.specs.Bytes.{wordOfBytes, bytesOf}
-use Rattle.frame.specs.declared.block_header.BlockHeader.{BlockHeader}
-use Rattle.frame.specs.declared.empty.ModuleEmpty.{ModuleEmpty}
-use Rattle.frame.specs.declared.event_header.EventHeader.{EventHeader}
-use Rattle.frame.specs.declared.parameters.Parameters.{Parameters}
-use Rattle.frame.specs.declared.trailer.BlockTrailer.{BlockTrailer}
-use Rattle.frame.specs.declared.trigger_time.TriggerTime.{TriggerTime}
-use Rattle.frame.specs.Words.{blockHeader, blockHeaderOf, blockHeaderFixed, blockHeaderWithin, parameters, parametersOf, parametersFixed, trailer, trailerOf, eventHeader, eventHeaderOf, triggerTime, triggerTimeOf, triggerTimeHigh, triggerTimeHighOf, triggerTimeHighFixed, empty, emptyOf, filler, fillerOf}
-use Rattle.raw.specs.declared.pair.SamplePair.{SamplePair}
-use Rattle.raw.specs.declared.pulse_raw.PulseRaw.{PulseRaw}
-use Rattle.raw.specs.declared.window.WindowRaw.{WindowRaw}
-use Rattle.raw.specs.Words.{window, windowOf, windowFixed, windowWithin, pulseRaw, pulseRawOf, pulseRawFixed, pair, pairOf, pairFixed}
-use Rattle.measures.specs.declared.integral.PulseIntegral.{PulseIntegral}
-use Rattle.measures.specs.declared.pedestal.PulsePedestal.{PulsePedestal}
-use Rattle.measures.specs.declared.time.PulseTime.{PulseTime}
-use Rattle.measures.specs.Words.{integral, integralOf, time, timeOf, timeFixed, pedestal, pedestalOf}
-use Rattle.items.specs.declared.Form.{Form}
-use Rattle.items.specs.declared.Item.{Item}
-use Rattle.items.specs.Items.{wordOf, wordsOf, itemFrom, fixedIn}
-use Rattle.settings.specs.declared.Refusal.{Refusal}
-use Rattle.settings.specs.declared.Settings.{Settings}
-use Rattle.settings.specs.Ranges.{settingsOk}
-use Rattle.settings.specs.Refusal.{numberOf}
-use Rattle.settings.specs.Sample.{samplesOk, amp}
-use Rattle.finder.specs.declared.Rule.{Rule}
-use Rattle.finder.specs.Find.{anyOver, ruleNumber, findAll}
-use Rattle.finder.specs.Call.{FindSays}
+use Rattle.fields.proofs as fields
+use Rattle.frame.proofs.block_header.BlockHeader as BlockHeader
+use Rattle.frame.proofs.empty.ModuleEmpty as ModuleEmpty
+use Rattle.frame.proofs.event_header.EventHeader as EventHeader
+use Rattle.frame.proofs.filler.Filler as Filler
+use Rattle.frame.proofs.parameters.Parameters as Parameters
+use Rattle.frame.proofs.trailer.BlockTrailer as BlockTrailer
+use Rattle.frame.proofs.trigger_time.TriggerTime as TriggerTime
+use Rattle.frame.proofs.trigger_time_high.TriggerTimeHigh as TriggerTimeHigh
+use Rattle.raw.proofs.pair.SamplePair as SamplePair
+use Rattle.raw.proofs.pulse_raw.PulseRaw as PulseRaw
+use Rattle.raw.proofs.window.WindowRaw as WindowRaw
+use Rattle.measures.proofs.integral.PulseIntegral as PulseIntegral
+use Rattle.measures.proofs.pedestal.PulsePedestal as PulsePedestal
+use Rattle.measures.proofs.time.PulseTime as PulseTime
+use Rattle.items.proofs as items
+use Rattle.items.proofs.Item as Item
+use Rattle.settings.proofs as settings
+use Rattle.finder.proofs as finder
 use Rattle.finder.specs.CallLaws as F
-use Rattle.channel.specs.Channel.{itemIf, commonOf, channelWords}
-use Rattle.channel.specs.Inner.{channelLength}
-use Rattle.event.specs.Event.{rowsOk, eventItems}
-use Rattle.event.specs.Inner.{eventLength}
-use Rattle.writer.specs.declared.State.{State}
-use Rattle.writer.specs.Calls.{SetUpSays, OpenBlockSays, OpenEventSays, PostSays, CloseSays, FinishSays}
+use Rattle.channel.proofs as channel
+use Rattle.event.proofs as event
+use Rattle.writer.proofs as writer
 use Rattle.writer.specs.UniqueLaws as W
-use Rattle.reader.specs.declared.Scan.{Scan}
-use Rattle.reader.specs.Reader.{startOf, stepAt, judgeAt, endNumber}
-use Rattle.records.specs.declared.answer.Pairs.{Pairs}
-use Rattle.records.specs.Next.{nextAt, partOf}
-use Rattle.host.specs.Check.{checkNumber}
-use Rattle.host.specs.Face.{SetUpFace, OpenBlockFace, OpenEventFace, PostFace, CloseFace, FinishFace, FindFace}
+use Rattle.reader.proofs.Scan as Scan
+use Rattle.records.proofs as records
+use Rattle.host.proofs as host
 use Rattle.host.specs.UniqueLaws as H
-use Rattle.text.specs.Page.{Page, put}
-use Rattle.text.specs.Line.{lineOf, lineText, textOf, cellsOf}
-use Rattle.lines.specs.declared.Second.{Second}
-use Rattle.lines.specs.Lines.{blockLine, setupLine, eventLine, clockLine, windowLine, pulseLine, pairLine, integralLine, timeLine, pedLine, endLine, emptyLine, refusedLine, fillLines}
-use Rattle.listing.specs.Listing.{listingOf}
-use Rattle.listing.specs.Says.{Says}
+use Rattle.text.proofs as text
+use Rattle.text.specs.Page.{Page}
+use Rattle.lines.proofs as lines
+use Rattle.listing.proofs as listing
 use Rattle.listing.specs.RoomLaws.{one-listing}
 
--- a statement of a result: two results that it allows are equal
-abbrev pub Unique : {A : Type 0} → (A → Type 0) → Type 0
-Unique {A} Says = (r r′ : A) → Says r → Says r′ → r ≡ r′
+-- A function's signature is `ended`. Its statement, `Learnt`, is what a caller learns of a call: of the arguments, the answer, and the arguments as the call leaves them
+abbrev pub Statement : Ended → Type 1
+Statement T = (κs : Lfts (T .signature .lifetimes)) → Args (T .signature) κs → Res (T .signature) κs → AtExit T κs → Type 0
 
--- the same with what is left of one lent list, and of two
-abbrev pub Unique₂ : {A B : Type 0} → (A → B → Type 0) → Type 0
-Unique₂ {A} {B} Says = (r r′ : A) (x x′ : B) → Says r x → Says r′ x′ → (r ≡ r′) × (x ≡ x′)
+-- For all arguments `a`: two results that the statement allows are equal. A result is the answer, `r` or `s`, and what is left of all that was lent, `u` or `v`:
+-- `Lasts` has a list for each `&mut` and nothing for any other argument; `atExit` is `a` with these lists in place of what was lent
+abbrev pub Unique : (T : Ended) → Statement T → Type 0
+Unique T Says =
+    (κs : Lfts (T .signature .lifetimes)) (a : Args (T .signature) κs) (r s : Res (T .signature) κs) (u v : Lasts T κs a)
+    → Says κs a r (atExit T κs a u) → Says κs a s (atExit T κs a v) → (r ≡ s) × (u ≡ v)
 
-abbrev pub Unique₃ : {A B C : Type 0} → (A → B → C → Type 0) → Type 0
-Unique₃ {A} {B} {C} Says = (r r′ : A) (x x′ : B) (y y′ : C) → Says r x y → Says r′ x′ y′ → (r ≡ r′) × ((x ≡ x′) × (y ≡ y′))
+-- a statement by an equation, where nothing is lent
+by-equation : {A U : Type 0} {x r s : A} {u : U} → r ≡ x → s ≡ x → (r ≡ s) × (u ≡ u)
+by-equation p q = (one-result p q, refl)
 
--- a statement by an equation: one law for all of them
-pub by-equation : {A : Type 0} (x : A) → Unique (λ (r : A). r ≡ x)
-by-equation x r r′ p q = one-result p q
+-- words written from a place on, where the words are lent first and `rest` is what follows them
+by-writing : {A U : Type 0} {words new x y : List A} {at r s : ℕ} (rest : U) → Written words at new r x → Written words at new s y
+    → (r ≡ s) × (_≡_ {A = List A × U} (x, rest) (y, rest))
+by-writing rest p q = let e = one-writing p q in (e .0, λ i. (e .1 i, rest))
 
--- words written from a place on
-pub by-writing : {A : Type 0} (buf : List A) (at : ℕ) (new : List A) → Unique₂ (Written buf at new)
-by-writing buf at new r r′ x x′ p q = one-writing p q
-
--- bytes put on a page
-abbrev pub Puts : List ℕ → ℕ → List ℕ → ℕ → List ℕ → Type 0
-Puts text at bytes r text′ = _≡_ {A = Page} (text′, r) (put (text, at) bytes)
-
-pub by-page : (text : List ℕ) (at : ℕ) (bytes : List ℕ) → Unique₂ (Puts text at bytes)
-by-page text at bytes r r′ x x′ p q = let e = one-result p q in (ap (λ (a : Page). a .1) e, ap (λ (a : Page). a .0) e)
+-- bytes put on a page, likewise
+by-page : {U : Type 0} {page : Page} {x y : List ℕ} {r s : ℕ} (rest : U) → (x, r) ≡ page → (y, s) ≡ page
+    → (r ≡ s) × (_≡_ {A = List ℕ × U} (x, rest) (y, rest))
+by-page rest p q = let e = one-result p q in (λ i. e i .1, λ i. (e i .0, rest))
 
 -- ---- words and records
 
 -- fields
-pub take-unique : (word place width : ℕ) → Unique (λ r. r ≡ fieldAt word place width)
-take-unique word place width = by-equation _
+pub take-unique : Unique fields.take.ended fields.take.Reads.Learnt
+take-unique κs a r s u v p q = by-equation p q
 
-pub put-unique : (word place value : ℕ) → Unique (λ r. r ≡ putAt word place value)
-put-unique word place value = by-equation _
+pub put-unique : Unique fields.put.ended fields.put.Reads.Learnt
+put-unique κs a r s u v p q = by-equation p q
 
-pub defining-unique : (fields tag : ℕ) → Unique (λ r. r ≡ putAt (putAt fields 27 tag) 31 1)
-defining-unique fields tag = by-equation _
+pub defining-unique : Unique fields.defining.ended fields.defining.Reads.Learnt
+defining-unique κs a r s u v p q = by-equation p q
 
-pub continuation-unique : (fields : ℕ) → Unique (λ r. r ≡ putAt fields 31 0)
-continuation-unique fields = by-equation _
+pub continuation-unique : Unique fields.continuation.ended fields.continuation.Reads.Learnt
+continuation-unique κs a r s u v p q = by-equation p q
 
-pub is-defining-unique : (word tag : ℕ) → Unique (λ r. r ≡ isDefining tag word)
-is-defining-unique word tag = by-equation _
+pub is-defining-unique : Unique fields.is_defining.ended fields.is_defining.Reads.Learnt
+is-defining-unique κs a r s u v p q = by-equation p q
 
-pub is-continuation-unique : (word : ℕ) → Unique (λ r. r ≡ isContinuation word)
-is-continuation-unique word = by-equation _
+pub is-continuation-unique : Unique fields.is_continuation.ended fields.is_continuation.Reads.Learnt
+is-continuation-unique κs a r s u v p q = by-equation p q
 
-pub of-bytes-unique : (a b c d : ℕ) → Unique (λ r. r ≡ wordOfBytes a b c d)
-of-bytes-unique a b c d = by-equation _
+pub of-bytes-unique : Unique fields.of_bytes.ended fields.of_bytes.Reads.Learnt
+of-bytes-unique κs a r s u v p q = by-equation p q
 
-pub to-bytes-unique : (word : ℕ) → Unique (λ r. r ≡ bytesOf word)
-to-bytes-unique word = by-equation _
+pub to-bytes-unique : Unique fields.to_bytes.ended fields.to_bytes.Reads.Learnt
+to-bytes-unique κs a r s u v p q = by-equation p q
 
--- the functions that every record type has: a row of fields, the record of a word, and whether a word is of the type
-pub record TypeUnique {R : Type 0} (row : R → List Field) (of : ℕ → R) (known : ℕ → Bool) : Type 0 where
-  pub fits : (self : R) → Unique (λ r. r ≡ fit (row self))
-  pub build : (self : R) → Unique (λ r. r ≡ pack (row self))
-  pub take-apart : (word : ℕ) → Unique (λ r. r ≡ of word)
-  pub is : (word : ℕ) → Unique (λ r. r ≡ known word)
+-- frame::block_header
+pub block-header-within-unique : Unique BlockHeader.within.ended BlockHeader.within.Reads.Learnt
+block-header-within-unique κs a r s u v p q = by-equation p q
 
-of-type : {R : Type 0} (row : R → List Field) (of : ℕ → R) (known : ℕ → Bool) → TypeUnique row of known
-of-type row of known = record { fits = λ self. by-equation _; build = λ self. by-equation _; take-apart = λ word. by-equation _; is = λ word. by-equation _ }
+pub block-header-fits-unique : Unique BlockHeader.fits.ended BlockHeader.fits.Reads.Learnt
+block-header-fits-unique κs a r s u v p q = by-equation p q
 
-pub block-header-unique : TypeUnique blockHeader blockHeaderOf (isDefining 0)
-block-header-unique = of-type _ _ _
+pub block-header-build-unique : Unique BlockHeader.build.ended BlockHeader.build.Reads.Learnt
+block-header-build-unique κs a r s u v p q = by-equation p q
 
-pub empty-unique : TypeUnique empty emptyOf (isDefining 14)
-empty-unique = of-type _ _ _
+pub block-header-take-apart-unique : Unique BlockHeader.take_apart.ended BlockHeader.take_apart.Reads.Learnt
+block-header-take-apart-unique κs a r s u v p q = by-equation p q
 
-pub event-header-unique : TypeUnique eventHeader eventHeaderOf (isDefining 2)
-event-header-unique = of-type _ _ _
+pub block-header-is-unique : Unique BlockHeader.is.ended BlockHeader.is.Reads.Learnt
+block-header-is-unique κs a r s u v p q = by-equation p q
 
-pub filler-unique : TypeUnique filler fillerOf (isDefining 15)
-filler-unique = of-type _ _ _
+pub block-header-fixed-unique : Unique BlockHeader.fixed.ended BlockHeader.fixed.Reads.Learnt
+block-header-fixed-unique κs a r s u v p q = by-equation p q
 
-pub parameters-unique : TypeUnique parameters parametersOf isContinuation
-parameters-unique = of-type _ _ _
+-- frame::empty
+pub empty-fits-unique : Unique ModuleEmpty.fits.ended ModuleEmpty.fits.Reads.Learnt
+empty-fits-unique κs a r s u v p q = by-equation p q
 
-pub trailer-unique : TypeUnique trailer trailerOf (isDefining 1)
-trailer-unique = of-type _ _ _
+pub empty-build-unique : Unique ModuleEmpty.build.ended ModuleEmpty.build.Reads.Learnt
+empty-build-unique κs a r s u v p q = by-equation p q
 
-pub trigger-time-unique : TypeUnique triggerTime triggerTimeOf (isDefining 3)
-trigger-time-unique = of-type _ _ _
+pub empty-take-apart-unique : Unique ModuleEmpty.take_apart.ended ModuleEmpty.take_apart.Reads.Learnt
+empty-take-apart-unique κs a r s u v p q = by-equation p q
 
-pub trigger-time-high-unique : TypeUnique triggerTimeHigh triggerTimeHighOf isContinuation
-trigger-time-high-unique = of-type _ _ _
+pub empty-is-unique : Unique ModuleEmpty.is.ended ModuleEmpty.is.Reads.Learnt
+empty-is-unique κs a r s u v p q = by-equation p q
 
-pub pair-unique : TypeUnique pair pairOf isContinuation
-pair-unique = of-type _ _ _
+-- frame::event_header
+pub event-header-fits-unique : Unique EventHeader.fits.ended EventHeader.fits.Reads.Learnt
+event-header-fits-unique κs a r s u v p q = by-equation p q
 
-pub pulse-raw-unique : TypeUnique pulseRaw pulseRawOf (isDefining 6)
-pulse-raw-unique = of-type _ _ _
+pub event-header-build-unique : Unique EventHeader.build.ended EventHeader.build.Reads.Learnt
+event-header-build-unique κs a r s u v p q = by-equation p q
 
-pub window-unique : TypeUnique window windowOf (isDefining 4)
-window-unique = of-type _ _ _
+pub event-header-take-apart-unique : Unique EventHeader.take_apart.ended EventHeader.take_apart.Reads.Learnt
+event-header-take-apart-unique κs a r s u v p q = by-equation p q
 
-pub integral-unique : TypeUnique integral integralOf (isDefining 7)
-integral-unique = of-type _ _ _
+pub event-header-is-unique : Unique EventHeader.is.ended EventHeader.is.Reads.Learnt
+event-header-is-unique κs a r s u v p q = by-equation p q
 
-pub pedestal-unique : TypeUnique pedestal pedestalOf (isDefining 10)
-pedestal-unique = of-type _ _ _
+-- frame::filler
+pub filler-fits-unique : Unique Filler.fits.ended Filler.fits.Reads.Learnt
+filler-fits-unique κs a r s u v p q = by-equation p q
 
-pub time-unique : TypeUnique time timeOf (isDefining 8)
-time-unique = of-type _ _ _
+pub filler-build-unique : Unique Filler.build.ended Filler.build.Reads.Learnt
+filler-build-unique κs a r s u v p q = by-equation p q
 
--- what some of them have beside these
-pub block-header-within-unique : (self : BlockHeader) → Unique (λ r. r ≡ blockHeaderWithin self)
-block-header-within-unique self = by-equation _
+pub filler-take-apart-unique : Unique Filler.take_apart.ended Filler.take_apart.Reads.Learnt
+filler-take-apart-unique κs a r s u v p q = by-equation p q
 
-pub block-header-fixed-unique : (word : ℕ) → Unique (λ r. r ≡ blockHeaderFixed word)
-block-header-fixed-unique word = by-equation _
+pub filler-is-unique : Unique Filler.is.ended Filler.is.Reads.Learnt
+filler-is-unique κs a r s u v p q = by-equation p q
 
-pub parameters-fixed-unique : (word : ℕ) → Unique (λ r. r ≡ parametersFixed word)
-parameters-fixed-unique word = by-equation _
+-- frame::parameters
+pub parameters-fits-unique : Unique Parameters.fits.ended Parameters.fits.Reads.Learnt
+parameters-fits-unique κs a r s u v p q = by-equation p q
 
-pub trigger-time-high-fixed-unique : (word : ℕ) → Unique (λ r. r ≡ triggerTimeHighFixed word)
-trigger-time-high-fixed-unique word = by-equation _
+pub parameters-build-unique : Unique Parameters.build.ended Parameters.build.Reads.Learnt
+parameters-build-unique κs a r s u v p q = by-equation p q
 
-pub pair-fixed-unique : (word : ℕ) → Unique (λ r. r ≡ pairFixed word)
-pair-fixed-unique word = by-equation _
+pub parameters-take-apart-unique : Unique Parameters.take_apart.ended Parameters.take_apart.Reads.Learnt
+parameters-take-apart-unique κs a r s u v p q = by-equation p q
 
-pub pulse-raw-fixed-unique : (word : ℕ) → Unique (λ r. r ≡ pulseRawFixed word)
-pulse-raw-fixed-unique word = by-equation _
+pub parameters-is-unique : Unique Parameters.is.ended Parameters.is.Reads.Learnt
+parameters-is-unique κs a r s u v p q = by-equation p q
 
-pub window-within-unique : (self : WindowRaw) → Unique (λ r. r ≡ windowWithin self)
-window-within-unique self = by-equation _
+pub parameters-fixed-unique : Unique Parameters.fixed.ended Parameters.fixed.Reads.Learnt
+parameters-fixed-unique κs a r s u v p q = by-equation p q
 
-pub window-fixed-unique : (word : ℕ) → Unique (λ r. r ≡ windowFixed word)
-window-fixed-unique word = by-equation _
+-- frame::trailer
+pub trailer-fits-unique : Unique BlockTrailer.fits.ended BlockTrailer.fits.Reads.Learnt
+trailer-fits-unique κs a r s u v p q = by-equation p q
 
-pub time-fixed-unique : (word : ℕ) → Unique (λ r. r ≡ timeFixed word)
-time-fixed-unique word = by-equation _
+pub trailer-build-unique : Unique BlockTrailer.build.ended BlockTrailer.build.Reads.Learnt
+trailer-build-unique κs a r s u v p q = by-equation p q
+
+pub trailer-take-apart-unique : Unique BlockTrailer.take_apart.ended BlockTrailer.take_apart.Reads.Learnt
+trailer-take-apart-unique κs a r s u v p q = by-equation p q
+
+pub trailer-is-unique : Unique BlockTrailer.is.ended BlockTrailer.is.Reads.Learnt
+trailer-is-unique κs a r s u v p q = by-equation p q
+
+-- frame::trigger_time
+pub trigger-time-fits-unique : Unique TriggerTime.fits.ended TriggerTime.fits.Reads.Learnt
+trigger-time-fits-unique κs a r s u v p q = by-equation p q
+
+pub trigger-time-build-unique : Unique TriggerTime.build.ended TriggerTime.build.Reads.Learnt
+trigger-time-build-unique κs a r s u v p q = by-equation p q
+
+pub trigger-time-take-apart-unique : Unique TriggerTime.take_apart.ended TriggerTime.take_apart.Reads.Learnt
+trigger-time-take-apart-unique κs a r s u v p q = by-equation p q
+
+pub trigger-time-is-unique : Unique TriggerTime.is.ended TriggerTime.is.Reads.Learnt
+trigger-time-is-unique κs a r s u v p q = by-equation p q
+
+-- frame::trigger_time_high
+pub trigger-time-high-fits-unique : Unique TriggerTimeHigh.fits.ended TriggerTimeHigh.fits.Reads.Learnt
+trigger-time-high-fits-unique κs a r s u v p q = by-equation p q
+
+pub trigger-time-high-build-unique : Unique TriggerTimeHigh.build.ended TriggerTimeHigh.build.Reads.Learnt
+trigger-time-high-build-unique κs a r s u v p q = by-equation p q
+
+pub trigger-time-high-take-apart-unique : Unique TriggerTimeHigh.take_apart.ended TriggerTimeHigh.take_apart.Reads.Learnt
+trigger-time-high-take-apart-unique κs a r s u v p q = by-equation p q
+
+pub trigger-time-high-is-unique : Unique TriggerTimeHigh.is.ended TriggerTimeHigh.is.Reads.Learnt
+trigger-time-high-is-unique κs a r s u v p q = by-equation p q
+
+pub trigger-time-high-fixed-unique : Unique TriggerTimeHigh.fixed.ended TriggerTimeHigh.fixed.Reads.Learnt
+trigger-time-high-fixed-unique κs a r s u v p q = by-equation p q
+
+-- raw::pair
+pub pair-fits-unique : Unique SamplePair.fits.ended SamplePair.fits.Reads.Learnt
+pair-fits-unique κs a r s u v p q = by-equation p q
+
+pub pair-build-unique : Unique SamplePair.build.ended SamplePair.build.Reads.Learnt
+pair-build-unique κs a r s u v p q = by-equation p q
+
+pub pair-take-apart-unique : Unique SamplePair.take_apart.ended SamplePair.take_apart.Reads.Learnt
+pair-take-apart-unique κs a r s u v p q = by-equation p q
+
+pub pair-is-unique : Unique SamplePair.is.ended SamplePair.is.Reads.Learnt
+pair-is-unique κs a r s u v p q = by-equation p q
+
+pub pair-fixed-unique : Unique SamplePair.fixed.ended SamplePair.fixed.Reads.Learnt
+pair-fixed-unique κs a r s u v p q = by-equation p q
+
+-- raw::pulse_raw
+pub pulse-raw-fits-unique : Unique PulseRaw.fits.ended PulseRaw.fits.Reads.Learnt
+pulse-raw-fits-unique κs a r s u v p q = by-equation p q
+
+pub pulse-raw-build-unique : Unique PulseRaw.build.ended PulseRaw.build.Reads.Learnt
+pulse-raw-build-unique κs a r s u v p q = by-equation p q
+
+pub pulse-raw-take-apart-unique : Unique PulseRaw.take_apart.ended PulseRaw.take_apart.Reads.Learnt
+pulse-raw-take-apart-unique κs a r s u v p q = by-equation p q
+
+pub pulse-raw-is-unique : Unique PulseRaw.is.ended PulseRaw.is.Reads.Learnt
+pulse-raw-is-unique κs a r s u v p q = by-equation p q
+
+pub pulse-raw-fixed-unique : Unique PulseRaw.fixed.ended PulseRaw.fixed.Reads.Learnt
+pulse-raw-fixed-unique κs a r s u v p q = by-equation p q
+
+-- raw::window
+pub window-within-unique : Unique WindowRaw.within.ended WindowRaw.within.Reads.Learnt
+window-within-unique κs a r s u v p q = by-equation p q
+
+pub window-fits-unique : Unique WindowRaw.fits.ended WindowRaw.fits.Reads.Learnt
+window-fits-unique κs a r s u v p q = by-equation p q
+
+pub window-build-unique : Unique WindowRaw.build.ended WindowRaw.build.Reads.Learnt
+window-build-unique κs a r s u v p q = by-equation p q
+
+pub window-take-apart-unique : Unique WindowRaw.take_apart.ended WindowRaw.take_apart.Reads.Learnt
+window-take-apart-unique κs a r s u v p q = by-equation p q
+
+pub window-is-unique : Unique WindowRaw.is.ended WindowRaw.is.Reads.Learnt
+window-is-unique κs a r s u v p q = by-equation p q
+
+pub window-fixed-unique : Unique WindowRaw.fixed.ended WindowRaw.fixed.Reads.Learnt
+window-fixed-unique κs a r s u v p q = by-equation p q
+
+-- measures::integral
+pub integral-fits-unique : Unique PulseIntegral.fits.ended PulseIntegral.fits.Reads.Learnt
+integral-fits-unique κs a r s u v p q = by-equation p q
+
+pub integral-build-unique : Unique PulseIntegral.build.ended PulseIntegral.build.Reads.Learnt
+integral-build-unique κs a r s u v p q = by-equation p q
+
+pub integral-take-apart-unique : Unique PulseIntegral.take_apart.ended PulseIntegral.take_apart.Reads.Learnt
+integral-take-apart-unique κs a r s u v p q = by-equation p q
+
+pub integral-is-unique : Unique PulseIntegral.is.ended PulseIntegral.is.Reads.Learnt
+integral-is-unique κs a r s u v p q = by-equation p q
+
+-- measures::pedestal
+pub pedestal-fits-unique : Unique PulsePedestal.fits.ended PulsePedestal.fits.Reads.Learnt
+pedestal-fits-unique κs a r s u v p q = by-equation p q
+
+pub pedestal-build-unique : Unique PulsePedestal.build.ended PulsePedestal.build.Reads.Learnt
+pedestal-build-unique κs a r s u v p q = by-equation p q
+
+pub pedestal-take-apart-unique : Unique PulsePedestal.take_apart.ended PulsePedestal.take_apart.Reads.Learnt
+pedestal-take-apart-unique κs a r s u v p q = by-equation p q
+
+pub pedestal-is-unique : Unique PulsePedestal.is.ended PulsePedestal.is.Reads.Learnt
+pedestal-is-unique κs a r s u v p q = by-equation p q
+
+-- measures::time
+pub time-fits-unique : Unique PulseTime.fits.ended PulseTime.fits.Reads.Learnt
+time-fits-unique κs a r s u v p q = by-equation p q
+
+pub time-build-unique : Unique PulseTime.build.ended PulseTime.build.Reads.Learnt
+time-build-unique κs a r s u v p q = by-equation p q
+
+pub time-take-apart-unique : Unique PulseTime.take_apart.ended PulseTime.take_apart.Reads.Learnt
+time-take-apart-unique κs a r s u v p q = by-equation p q
+
+pub time-is-unique : Unique PulseTime.is.ended PulseTime.is.Reads.Learnt
+time-is-unique κs a r s u v p q = by-equation p q
+
+pub time-fixed-unique : Unique PulseTime.fixed.ended PulseTime.fixed.Reads.Learnt
+time-fixed-unique κs a r s u v p q = by-equation p q
 
 -- items
-pub item-build-unique : (self : Item) → Unique (λ r. r ≡ wordOf self)
-item-build-unique self = by-equation _
+pub item-build-unique : Unique Item.build.ended Item.build.Reads.Learnt
+item-build-unique κs a r s u v p q = by-equation p q
 
-pub item-take-apart-unique : (form : Form) (word : ℕ) → Unique (λ r. r ≡ itemFrom form word)
-item-take-apart-unique form word = by-equation _
+pub item-take-apart-unique : Unique Item.take_apart.ended Item.take_apart.Reads.Learnt
+item-take-apart-unique κs a r s u v p q = by-equation p q
 
-pub fixed-unique : (form : Form) (word : ℕ) → Unique (λ r. r ≡ fixedIn form word)
-fixed-unique form word = by-equation _
+pub fixed-unique : Unique items.fixed.ended items.fixed.Reads.Learnt
+fixed-unique κs a r s u v p q = by-equation p q
 
 -- ---- settings and finder
 
 -- settings
-pub number-unique : (refusal : Refusal) → Unique (λ r. r ≡ numberOf refusal)
-number-unique refusal = by-equation _
+pub number-unique : Unique settings.number.ended settings.number.Reads.Learnt
+number-unique κs a r s u v p q = by-equation p q
 
-pub accepted-unique : (refusal : Refusal) → Unique (λ r. r ≡ eqb (numberOf refusal) 0)
-accepted-unique refusal = by-equation _
+pub accepted-unique : Unique settings.accepted.ended settings.accepted.Reads.Learnt
+accepted-unique κs a r s u v p q = by-equation p q
 
-pub amplitude-unique : (sample : ℕ) → Unique (λ r. (r ≡ amp sample) × (r ≤ 4095))
-amplitude-unique sample r r′ p q = one-result (p .0) (q .0)
+pub amplitude-unique : Unique settings.amplitude.ended settings.amplitude.Reads.Learnt
+amplitude-unique κs a r s u v p q = by-equation (p .0) (q .0)
 
-pub samples-ok-unique : (window : List ℕ) → Unique (λ r. r ≡ samplesOk window)
-samples-ok-unique window = by-equation _
+pub samples-ok-unique : Unique settings.samples_ok.ended settings.samples_ok.Reads.Learnt
+samples-ok-unique κs a r s u v p q = by-equation p q
 
-pub in-range-unique : (s : Settings) → Unique (λ r. r ≡ settingsOk s)
-in-range-unique s = by-equation _
+pub in-range-unique : Unique settings.in_range.ended settings.in_range.Reads.Learnt
+in-range-unique κs a r s u v p q = by-equation p q
 
 -- finder
-pub rule-number-unique : (rule : Rule) → Unique (λ r. r ≡ ruleNumber rule)
-rule-number-unique rule = by-equation _
+pub rule-number-unique : Unique finder.rule_number.ended finder.rule_number.Reads.Learnt
+rule-number-unique κs a r s u v p q = by-equation p q
 
-pub any-over-unique : (window : List ℕ) (threshold : ℕ) → Unique (λ r. r ≡ anyOver window threshold)
-any-over-unique window threshold = by-equation _
+pub any-over-unique : Unique finder.any_over.ended finder.any_over.Reads.Learnt
+any-over-unique κs a r s u v p q = by-equation p q
 
-pub pulses-of-unique : (window : List ℕ) (threshold nsb nsa limit : ℕ) → Unique (λ r. r ≡ findAll window threshold nsb nsa limit)
-pulses-of-unique window threshold nsb nsa limit = by-equation _
+pub pulses-of-unique : Unique finder.pulses_of.ended finder.pulses_of.Reads.Learnt
+pulses-of-unique κs a r s u v p q = by-equation p q
 
-pub find-unique : (settings : Settings) (channel : ℕ) (window : List ℕ) → Unique (FindSays settings channel window)
-find-unique = F.find-unique
+pub find-unique : Unique finder.find.ended finder.find.Reads.Learnt
+find-unique κs a r s u v p q = (F.find-unique _ _ _ _ _ p q, refl)
 
 -- ---- writing
 
 -- channel
-pub put-item-unique : (words : List ℕ) (at : ℕ) (item : Item) → Unique₂ (Written words at (wordOf item ∷ []))
-put-item-unique words at item = by-writing _ _ _
+pub put-item-unique : Unique channel.put_item.ended channel.put_item.Reads.Learnt
+put-item-unique κs a r s u v p q = by-writing (u .1) p q
 
-pub put-if-unique : (words : List ℕ) (at : ℕ) (on : Bool) (item : Item) → Unique₂ (Written words at (wordsOf (itemIf on item)))
-put-if-unique words at on item = by-writing _ _ _
+pub put-if-unique : Unique channel.put_if.ended channel.put_if.Reads.Learnt
+put-if-unique κs a r s u v p q = by-writing (u .1) p q
 
-pub put-channel-unique : (words : List ℕ) (at : ℕ) (settings : Settings) (threshold channel : ℕ) (row : List ℕ) → Unique₂ (Written words at (channelWords (commonOf settings) threshold channel row))
-put-channel-unique words at settings threshold channel row = by-writing _ _ _
+pub put-channel-unique : Unique channel.put_channel.ended channel.put_channel.Reads.Learnt
+put-channel-unique κs a r s u v p q = by-writing (u .1) p q
 
-pub channel-length-unique : (settings : Settings) (threshold : ℕ) (row : List ℕ) → Unique (λ r. r ≡ channelLength (commonOf settings) threshold row)
-channel-length-unique settings threshold row = by-equation _
+pub channel-length-unique : Unique channel.channel_length.ended channel.channel_length.Reads.Learnt
+channel-length-unique κs a r s u v p q = by-equation p q
 
 -- event
-pub rows-ok-unique : (settings : Settings) (posted : List Bool) (store : List ℕ) → Unique (λ r. r ≡ rowsOk (settings .nw) store 0 posted)
-rows-ok-unique settings posted store = by-equation _
+pub rows-ok-unique : Unique event.rows_ok.ended event.rows_ok.Reads.Learnt
+rows-ok-unique κs a r s u v p q = by-equation p q
 
-pub put-event-unique : (words : List ℕ) (at : ℕ) (settings : Settings) (number time : ℕ) (posted : List Bool) (store : List ℕ) → Unique₂ (Written words at (wordsOf (eventItems settings number time posted store)))
-put-event-unique words at settings number time posted store = by-writing _ _ _
+pub put-event-unique : Unique event.put_event.ended event.put_event.Reads.Learnt
+put-event-unique κs a r s u v p q = by-writing (u .1) p q
 
-pub event-length-unique : (settings : Settings) (posted : List Bool) (store : List ℕ) → Unique (λ r. r ≡ eventLength settings posted store)
-event-length-unique settings posted store = by-equation _
+pub event-length-unique : Unique event.event_length.ended event.event_length.Reads.Learnt
+event-length-unique κs a r s u v p q = by-equation p q
 
 -- writer
-pub set-up-unique : (settings : Settings) → Unique (SetUpSays settings)
-set-up-unique = W.set-up-unique
+pub set-up-unique : Unique writer.set_up.ended writer.set_up.Reads.Learnt
+set-up-unique κs a r s u v p q = (W.set-up-unique _ _ _ p q, refl)
 
-pub open-block-unique : (state : State) (words : List ℕ) (number events : ℕ) → Unique₂ (OpenBlockSays state words number events)
-open-block-unique = W.open-block-unique
+pub open-block-unique : Unique writer.«open_block».ended writer.«open_block».Reads.Learnt
+open-block-unique κs a r s u v p q = let e = W.open-block-unique _ _ _ _ _ _ _ _ p q in (e .0, λ i. (tt, (e .1 i, u .1 .1)))
 
-pub open-event-unique : (state : State) (number time : ℕ) → Unique (OpenEventSays state number time)
-open-event-unique = W.open-event-unique
+pub open-event-unique : Unique writer.«open_event».ended writer.«open_event».Reads.Learnt
+open-event-unique κs a r s u v p q = (W.open-event-unique _ _ _ _ _ p q, refl)
 
-pub post-unique : (state : State) (store : List ℕ) (channel : ℕ) (window : List ℕ) → Unique₂ (PostSays state store channel window)
-post-unique = W.post-unique
+pub post-unique : Unique writer.post.ended writer.post.Reads.Learnt
+post-unique κs a r s u v p q = let e = W.post-unique _ _ _ _ _ _ _ _ p q in (e .0, λ i. (tt, (e .1 i, u .1 .1)))
 
-pub close-unique : (state : State) (store words : List ℕ) → Unique₂ (CloseSays state store words)
-close-unique = W.close-unique
+pub close-unique : Unique writer.close.ended writer.close.Reads.Learnt
+close-unique κs a r s u v p q = let e = W.close-unique _ _ _ _ _ _ _ p q in (e .0, λ i. (tt, (tt, (e .1 i, tt))))
 
-pub finish-unique : (state : State) (words : List ℕ) → Unique₂ (FinishSays state words)
-finish-unique = W.finish-unique
+pub finish-unique : Unique writer.finish.ended writer.finish.Reads.Learnt
+finish-unique κs a r s u v p q = let e = W.finish-unique _ _ _ _ _ _ p q in (e .0, λ i. (tt, (e .1 i, tt)))
 
 -- ---- reading
 
 -- reader
-pub scan-start-unique : Unique (λ r. r ≡ startOf)
-scan-start-unique = by-equation _
+pub scan-start-unique : Unique Scan.start.ended Scan.start.Reads.Learnt
+scan-start-unique κs a r s u v p q = by-equation p q
 
-pub scan-step-unique : (self : Scan) (word : ℕ) → Unique (λ r. r ≡ stepAt self word)
-scan-step-unique self word = by-equation _
+pub scan-step-unique : Unique Scan.step.ended Scan.step.Reads.Learnt
+scan-step-unique κs a r s u v p q = by-equation (p .answer) (q .answer)
 
-pub scan-judge-unique : (self : Scan) (word : ℕ) → Unique (λ r. r ≡ judgeAt self word)
-scan-judge-unique self word = by-equation _
+pub scan-judge-unique : Unique Scan.judge.ended Scan.judge.Reads.Learnt
+scan-judge-unique κs a r s u v p q = by-equation (p .answer) (q .answer)
 
-pub scan-at-end-unique : (self : Scan) → Unique (λ r. r ≡ endNumber self)
-scan-at-end-unique self = by-equation _
+pub scan-at-end-unique : Unique Scan.at_end.ended Scan.at_end.Reads.Learnt
+scan-at-end-unique κs a r s u v p q = by-equation p q
 
--- records; of `part`, the words that it lends
-pub next-unique : (words : List ℕ) (scan : Scan) → Unique (λ r. r ≡ nextAt words scan)
-next-unique words scan = by-equation _
+-- records; of `part`, whose answer is a reference, the words that it lends
+pub next-unique : Unique records.next.ended records.next.Reads.Learnt
+next-unique κs a r s u v p q = by-equation (p .answer) (q .answer)
 
-pub part-unique : (words : List ℕ) (pairs : Pairs) → Unique (λ r. r ≡ partOf words pairs)
-part-unique words pairs = by-equation _
+pub part-unique : (κs : Lfts 1) (a : Args (records.part.ended .signature) κs) (r s : Res (records.part.ended .signature) κs)
+    → records.part.Reads.Learnt κs a r a → records.part.Reads.Learnt κs a s a → now r ≡ now s
+part-unique κs a r s p q = one-result p q
 
 -- host
-pub fadc250-check-unique : (bytes : List ℕ) → Unique (λ r. r ≡ checkNumber bytes)
-fadc250-check-unique bytes = by-equation _
+pub fadc250-check-unique : Unique host.fadc250_check.ended host.fadc250_check.Reads.Learnt
+fadc250-check-unique κs a r s u v p q = by-equation p q
 
 -- ---- from C
 
-pub fadc250-set-up-unique : (settings state : List ℕ) → Unique₂ (SetUpFace settings state)
-fadc250-set-up-unique = H.set-up-face-unique
+pub fadc250-set-up-unique : Unique host.calls.fadc250_set_up.ended host.calls.fadc250_set_up.Reads.Learnt
+fadc250-set-up-unique κs a r s u v p q = let e = H.set-up-face-unique _ _ _ _ _ _ p q in (e .0, λ i. (tt, (e .1 i, tt)))
 
-pub fadc250-open-block-unique : (state words : List ℕ) (number events : ℕ) → Unique₃ (OpenBlockFace state words number events)
-fadc250-open-block-unique = H.open-block-face-unique
+pub fadc250-open-block-unique : Unique host.calls.fadc250_open_block.ended host.calls.fadc250_open_block.Reads.Learnt
+fadc250-open-block-unique κs a r s u v p q = let e = H.open-block-face-unique _ _ _ _ _ _ _ _ _ _ p q in (e .0, λ i. (e .1 .0 i, (e .1 .1 i, u .1 .1)))
 
-pub fadc250-open-event-unique : (state : List ℕ) (number time : ℕ) → Unique₂ (OpenEventFace state number time)
-fadc250-open-event-unique = H.open-event-face-unique
+pub fadc250-open-event-unique : Unique host.calls.fadc250_open_event.ended host.calls.fadc250_open_event.Reads.Learnt
+fadc250-open-event-unique κs a r s u v p q = let e = H.open-event-face-unique _ _ _ _ _ _ _ p q in (e .0, λ i. (e .1 i, u .1))
 
-pub fadc250-post-unique : (state store : List ℕ) (channel : ℕ) (window : List ℕ) → Unique₃ (PostFace state store channel window)
-fadc250-post-unique = H.post-face-unique
+pub fadc250-post-unique : Unique host.calls.fadc250_post.ended host.calls.fadc250_post.Reads.Learnt
+fadc250-post-unique κs a r s u v p q = let e = H.post-face-unique _ _ _ _ _ _ _ _ _ _ p q in (e .0, λ i. (e .1 .0 i, (e .1 .1 i, u .1 .1)))
 
-pub fadc250-close-unique : (state store words : List ℕ) → Unique₃ (CloseFace state store words)
-fadc250-close-unique = H.close-face-unique
+pub fadc250-close-unique : Unique host.calls.fadc250_close.ended host.calls.fadc250_close.Reads.Learnt
+fadc250-close-unique κs a r s u v p q = let e = H.close-face-unique _ _ _ _ _ _ _ _ _ p q in (e .0, λ i. (e .1 .0 i, (tt, (e .1 .1 i, tt))))
 
-pub fadc250-finish-unique : (state words : List ℕ) → Unique₃ (FinishFace state words)
-fadc250-finish-unique = H.finish-face-unique
+pub fadc250-finish-unique : Unique host.calls.fadc250_finish.ended host.calls.fadc250_finish.Reads.Learnt
+fadc250-finish-unique κs a r s u v p q = let e = H.finish-face-unique _ _ _ _ _ _ _ _ p q in (e .0, λ i. (e .1 .0 i, (e .1 .1 i, tt)))
 
-pub fadc250-find-unique : (settings : List ℕ) (channel : ℕ) (window out : List ℕ) → Unique₂ (FindFace settings channel window out)
-fadc250-find-unique = H.find-face-unique
+pub fadc250-find-unique : Unique host.found.fadc250_find.ended host.found.fadc250_find.Reads.Learnt
+fadc250-find-unique κs a r s u v p q = let e = H.find-face-unique _ _ _ _ _ _ _ _ p q in (e .0, λ i. (tt, (tt, (tt, (e .1 i, tt)))))
 
 -- ---- listing
 
 -- text
-pub put-line-unique : (text : List ℕ) (at : ℕ) (name cells : List ℕ) (dashes : ℕ) → Unique₂ (Puts text at (lineText (lineOf name (cellsOf dashes cells))))
-put-line-unique text at name cells dashes = by-page _ _ _
+pub put-line-unique : Unique text.put_line.ended text.put_line.Reads.Learnt
+put-line-unique κs a r s u v p q = by-page (u .1) p q
 
 -- lines
-pub put-block-unique : (text : List ℕ) (at : ℕ) (r : BlockHeader) → Unique₂ (Puts text at (lineText (blockLine r)))
-put-block-unique text at r = by-page _ _ _
+pub put-block-unique : Unique lines.put_block.ended lines.put_block.Reads.Learnt
+put-block-unique κs a r s u v p q = by-page (u .1) p q
 
-pub put-setup-unique : (text : List ℕ) (at : ℕ) (r : Parameters) → Unique₂ (Puts text at (lineText (setupLine r)))
-put-setup-unique text at r = by-page _ _ _
+pub put-setup-unique : Unique lines.put_setup.ended lines.put_setup.Reads.Learnt
+put-setup-unique κs a r s u v p q = by-page (u .1) p q
 
-pub lines-put-event-unique : (text : List ℕ) (at : ℕ) (r : EventHeader) → Unique₂ (Puts text at (lineText (eventLine r)))
-lines-put-event-unique text at r = by-page _ _ _
+pub lines-put-event-unique : Unique lines.put_event.ended lines.put_event.Reads.Learnt
+lines-put-event-unique κs a r s u v p q = by-page (u .1) p q
 
-pub put-clock-unique : (text : List ℕ) (at : ℕ) (r : TriggerTime) (second : Second) → Unique₂ (Puts text at (lineText (clockLine r second)))
-put-clock-unique text at r second = by-page _ _ _
+pub put-clock-unique : Unique lines.put_clock.ended lines.put_clock.Reads.Learnt
+put-clock-unique κs a r s u v p q = by-page (u .1) p q
 
-pub put-window-unique : (text : List ℕ) (at : ℕ) (r : WindowRaw) → Unique₂ (Puts text at (lineText (windowLine r)))
-put-window-unique text at r = by-page _ _ _
+pub put-window-unique : Unique lines.put_window.ended lines.put_window.Reads.Learnt
+put-window-unique κs a r s u v p q = by-page (u .1) p q
 
-pub put-pulse-unique : (text : List ℕ) (at : ℕ) (r : PulseRaw) → Unique₂ (Puts text at (lineText (pulseLine r)))
-put-pulse-unique text at r = by-page _ _ _
+pub put-pulse-unique : Unique lines.put_pulse.ended lines.put_pulse.Reads.Learnt
+put-pulse-unique κs a r s u v p q = by-page (u .1) p q
 
-pub put-pair-unique : (text : List ℕ) (at : ℕ) (r : SamplePair) → Unique₂ (Puts text at (lineText (pairLine r)))
-put-pair-unique text at r = by-page _ _ _
+pub put-pair-unique : Unique lines.put_pair.ended lines.put_pair.Reads.Learnt
+put-pair-unique κs a r s u v p q = by-page (u .1) p q
 
-pub put-integral-unique : (text : List ℕ) (at : ℕ) (r : PulseIntegral) → Unique₂ (Puts text at (lineText (integralLine r)))
-put-integral-unique text at r = by-page _ _ _
+pub put-integral-unique : Unique lines.put_integral.ended lines.put_integral.Reads.Learnt
+put-integral-unique κs a r s u v p q = by-page (u .1) p q
 
-pub put-time-unique : (text : List ℕ) (at : ℕ) (r : PulseTime) → Unique₂ (Puts text at (lineText (timeLine r)))
-put-time-unique text at r = by-page _ _ _
+pub put-time-unique : Unique lines.put_time.ended lines.put_time.Reads.Learnt
+put-time-unique κs a r s u v p q = by-page (u .1) p q
 
-pub put-ped-unique : (text : List ℕ) (at : ℕ) (r : PulsePedestal) → Unique₂ (Puts text at (lineText (pedLine r)))
-put-ped-unique text at r = by-page _ _ _
+pub put-ped-unique : Unique lines.put_ped.ended lines.put_ped.Reads.Learnt
+put-ped-unique κs a r s u v p q = by-page (u .1) p q
 
-pub put-end-unique : (text : List ℕ) (at : ℕ) (r : BlockTrailer) → Unique₂ (Puts text at (lineText (endLine r)))
-put-end-unique text at r = by-page _ _ _
+pub put-end-unique : Unique lines.put_end.ended lines.put_end.Reads.Learnt
+put-end-unique κs a r s u v p q = by-page (u .1) p q
 
-pub put-empty-unique : (text : List ℕ) (at : ℕ) (r : ModuleEmpty) → Unique₂ (Puts text at (lineText (emptyLine r)))
-put-empty-unique text at r = by-page _ _ _
+pub put-empty-unique : Unique lines.put_empty.ended lines.put_empty.Reads.Learnt
+put-empty-unique κs a r s u v p q = by-page (u .1) p q
 
-pub put-refused-unique : (text : List ℕ) (at number place : ℕ) → Unique₂ (Puts text at (lineText (refusedLine number place)))
-put-refused-unique text at number place = by-page _ _ _
+pub put-refused-unique : Unique lines.put_refused.ended lines.put_refused.Reads.Learnt
+put-refused-unique κs a r s u v p q = by-page (u .1) p q
 
-pub put-fill-unique : (text : List ℕ) (at fillers : ℕ) → Unique₂ (Puts text at (textOf (fillLines fillers)))
-put-fill-unique text at fillers = by-page _ _ _
+pub put-fill-unique : Unique lines.put_fill.ended lines.put_fill.Reads.Learnt
+put-fill-unique κs a r s u v p q = by-page (u .1) p q
 
 -- listing
-pub list-unique : (bytes text : List ℕ) → Unique₂ (Says (listingOf bytes) text)
-list-unique bytes text r r′ b b′ p q = one-listing p q
+pub list-unique : Unique listing.list.ended listing.list.Reads.Learnt
+list-unique κs a r s u v p q = let e = one-listing p q in (e .0, λ i. (tt, (e .1 i, tt)))

@@ -43,7 +43,7 @@ each-append P (x ∷ xs) ys p q = (p .0, each-append P xs ys (p .1) q)
 
 -- ---- pieces, one after the other
 
-abbrev Pieces : List Item → Type 0
+abbrev pub Pieces : List Item → Type 0
 Pieces xs = TreeOf piecesOf (Each PieceOk) xs
 
 none : Pieces []
@@ -130,7 +130,7 @@ raw-made c w i p k j u n f =
 
 -- ---- what is measured
 
-integral-made : (c i : ℕ) (p : Pulse) → c ≤ 15 → i ≤ 3 → Pieces (integralItem c i p ∷ [])
+pub integral-made : (c i : ℕ) (p : Pulse) → c ≤ 15 → i ≤ 3 → Pieces (integralItem c i p ∷ [])
 unfolding integralItem fits M.integral
 integral-made c i p k j =
     one (integral _) tt refl (both (le-leb c 15 k) (both (le-leb i 3 j) (both (quality (ltb 524287 (p .sum))) (le-leb (min (p .sum) 524287) 524287 (omega arith)))), tt)
@@ -139,7 +139,7 @@ integral-made c i p k j =
     quality true = refl
     quality false = refl
 
-time-made : (high : Bool) (c i n : ℕ) (p : Pulse) → c ≤ 15 → i ≤ 3 → n ≤ 500 → PulseFits n p → Pieces (timeItem high c i p ∷ [])
+pub time-made : (high : Bool) (c i n : ℕ) (p : Pulse) → c ≤ 15 → i ≤ 3 → n ≤ 500 → PulseFits n p → Pieces (timeItem high c i p ∷ [])
 unfolding timeItem fits M.time
 time-made high c i n p k j m f = one (time _) tt refl (both (le-leb c 15 k) (both (le-leb i 3 j) (both (coarse high) (fine high))), tt)
   where
@@ -151,7 +151,7 @@ time-made high c i n p k j m f = one (time _) tt refl (both (le-leb c 15 k) (bot
     fine true = le-leb (p .time .fine) 63 (f .time .fine)
     fine false = refl
 
-pedestal-made : (c i n : ℕ) (p : Pulse) → c ≤ 15 → i ≤ 3 → PulseFits n p → Pieces (pedestalItem c i p ∷ [])
+pub pedestal-made : (c i n : ℕ) (p : Pulse) → c ≤ 15 → i ≤ 3 → PulseFits n p → Pieces (pedestalItem c i p ∷ [])
 unfolding pedestalItem fits M.pedestal
 pedestal-made c i n p k j f =
     one (pedestal _) tt refl

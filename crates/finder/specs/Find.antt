@@ -1,6 +1,6 @@
 -- The pulses of one window: document 01, "Finding pulses". "Samples are numbered from 1", so 0 says that a search found none. Assumes nothing.
 use Prim.Native.Nat.{ℕ, zero, suc, _+_, _-_, _*_, _/_, min, max}
-use mathlib.Core.Bool.{Bool, not, _&&_, _||_, cond}
+use mathlib.Core.Bool.{Bool, true, not, _&&_, _||_, cond}
 use mathlib.Core.List.{List, [], _∷_}
 use lib.ListN.{length, getD, replicate}
 use lib.Seq.{sets}
@@ -125,6 +125,10 @@ ruleNumber Early = 1
 ruleNumber Late = 2
 ruleNumber Flat = 3
 ruleNumber Edge = 4
+
+-- the same as a table, "checked in this order": rows of a rule's number and when it holds
+unfoldable pub ruleTable : List ℕ → ℕ → ℕ → List (ℕ × Bool)
+ruleTable w t tc = (1, early w t) ∷ (2, ltb (length w - tc) 5) ∷ (3, eqb (firstFall w tc) 0) ∷ (4, true) ∷ []
 
 -- ---- all pulses
 

@@ -2,13 +2,14 @@
 use Prim.Native.Nat.{ℕ, zero, suc, _+_, _*_, _/_, _%_, _^_, _≤_, _<_}
 use mathlib.Core.Path.{_≡_, refl, sym, ap, ap₂, _∙_, subst}
 use mathlib.Core.Bool.{Bool, true, false, cond, _||_, false≢true}
-use mathlib.Core.List.{List, [], _∷_}
-use native.Mathlib.Nat.{add-comm}
+use mathlib.Core.List.{List, [], _∷_, _++_}
+use native.Mathlib.Nat.{add-comm, mod-eq-of-lt}
+use native.Mathlib.Numerals.{add-one}
 use native.Mathlib.Omega.{arith}
 use borrow.Author.Tests.{eq-eqb, ne-eqb, eqb-true, le-leb}
 use lib.Dec.{eqb}
-use lib.ListN.{length, drop, length-set}
-use lib.Pow.{shr-shr}
+use lib.ListN.{length, getD, drop, length-set}
+use lib.Pow.{shr-shr, mod-pow-add}
 use Rattle.writer.specs.declared.Phase.{Phase}
 use Rattle.writer.specs.declared.Phase.the-variants.{Idle, Block, Event}
 use Rattle.writer.specs.declared.State.{State}
@@ -20,8 +21,8 @@ use Rattle.writer.specs.Calls.{endItems}
 use Rattle.writer.specs.CallsLaws.{finish-accepted}
 use Rattle.writer.specs.WordsLaws.{end-length, multiple-positive, fillers-lt}
 use Rattle.host.specs.Face.{most32, most64, headLimits, heldIn, isSettings, isState, settingsFrom, phaseFrom, table, marksFrom, stateFrom, bitOf, settingsNumbers, phaseNumber, marksNumber, headOf, numbersOf, blockOpened, posted, eventClosed, finishOn, orElse, SetUpFace, OpenBlockFace, OpenEventFace, PostFace, CloseFace, FinishFace}
-use Rattle.host.specs.NumbersLaws.{marks-small, state-settings-held}
-use Rattle.host.specs.FaceLaws.{settings-back}
+use Rattle.host.specs.NumbersLaws.{marks-small, state-34, state-settings-held, head-held}
+use Rattle.host.specs.FaceLaws.{from-place, bit-back, settings-back}
 
 -- ---- the phase and the marks
 
@@ -54,10 +55,11 @@ half : (b : Bool) (m : ℕ) → (bitOf b + 2 * m) / 2 ≡ m
 half true m = omega arith
 half false m = omega arith
 
+bit-shift : (x j : ℕ) → eqb (x / 2 ^ (j + 1) % 2) 1 ≡ eqb (x / 2 / 2 ^ j % 2) 1
+bit-shift x j = ap (λ (n : ℕ). eqb (n % 2) 1) (ap (λ (k : ℕ). x / 2 ^ k) (add-comm j 1) ∙ sym (shr-shr x 1 j))
+
 bit-next : (b : Bool) (m j : ℕ) → eqb ((bitOf b + 2 * m) / 2 ^ (j + 1) % 2) 1 ≡ eqb (m / 2 ^ j % 2) 1
-bit-next b m j =
-    ap (λ (n : ℕ). eqb (n % 2) 1)
-    (ap (λ (k : ℕ). (bitOf b + 2 * m) / 2 ^ k) (add-comm j 1) ∙ sym (shr-shr (bitOf b + 2 * m) 1 j) ∙ ap (λ (n : ℕ). n / 2 ^ j) (half b m))
+bit-next b m j = bit-shift (bitOf b + 2 * m) j ∙ ap (λ (n : ℕ). eqb (n / 2 ^ j % 2) 1) (half b m)
 
 bits-back : (bs : List Bool) → table (λ i. eqb (marksNumber bs / 2 ^ i % 2) 1) (length bs) 0 ≡ bs
 unfolding table marksNumber
@@ -70,6 +72,35 @@ bits-back (b ∷ bs) =
 marks-back : (bs : List Bool) → length bs ≡ 16 → marksFrom (marksNumber bs) ≡ bs
 unfolding marksFrom
 marks-back bs e = ap (λ (k : ℕ). table (λ i. eqb (marksNumber bs / 2 ^ i % 2) 1) k 0) (sym e) ∙ bits-back bs
+
+-- and the other way
+marks-there : (k x : ℕ) → marksNumber (table (λ c. eqb (x / 2 ^ c % 2) 1) k 0) ≡ x % 2 ^ k
+unfolding table marksNumber
+marks-there zero x = omega arith
+marks-there (suc k) x =
+    let bit : ℕ = bitOf (eqb (x / 2 ^ 0 % 2) 1) in
+    let low : bit ≡ x / 2 ^ 0 % 2 = bit-back (x / 2 ^ 0 % 2) (omega arith) in
+    ap (λ (bs : List Bool). bit + 2 * marksNumber bs) (table-shift (λ c. eqb (x / 2 ^ c % 2) 1) k 0 ∙ table-ext _ _ (bit-shift x) k 0)
+    ∙ ap (λ (m : ℕ). bit + 2 * m) (marks-there k (x / 2))
+    ∙ omega (arith, mod-pow-add x k 1)
+    ∙ ap (λ (j : ℕ). x % 2 ^ j) (add-one k)
+
+phase-there : (x : ℕ) → x ≤ 2 → phaseNumber (phaseFrom x) ≡ x
+phase-there zero h = refl
+phase-there (suc zero) h = refl
+phase-there (suc (suc zero)) h = refl
+phase-there (suc (suc (suc x))) h = absurd (omega arith)
+
+-- numbers that are a state are those of the state that they load as
+pub numbers-back : (n : List ℕ) → isState n ≡ true → numbersOf (stateFrom n) ≡ n
+unfolding numbersOf headOf stateFrom marksFrom table headLimits
+numbers-back n e =
+    let at = getD n in
+    let marks : at 5 0 < 2 ^ 16 = omega (arith, head-held n e 5 (omega arith)) in
+    ap₂ (λ (p m : ℕ). p ∷ at 1 0 ∷ at 2 0 ∷ at 3 0 ∷ at 4 0 ∷ m ∷ at 6 0 ∷ at 7 0 ∷ settingsNumbers (settingsFrom (drop 8 n))) (phase-there (at 0 0) (head-held n e 0 (omega arith)))
+    (marks-there 16 (at 5 0) ∙ mod-eq-of-lt marks)
+    ∙ ap (λ (l : List ℕ). table (λ j. at j 0) 8 0 ++ l) (settings-back (drop 8 n) (state-settings-held n e))
+    ∙ sym (from-place n 8 0 (omega (arith, state-34 n e)))
 
 -- ---- the numbers of a state in its ranges are held
 

@@ -26,7 +26,7 @@ use Rattle.host.specs.NumbersLaws.{held-at, settings-26, state-settings-
 -- ---- settings, loaded and stored
 
 -- k numbers from place i, and the rest
-from-place : (m : List ℕ) (k i : ℕ) → i + k ≤ length m → drop i m ≡ table (λ j. getD m j 0) k i ++ drop (i + k) m
+pub from-place : (m : List ℕ) (k i : ℕ) → i + k ≤ length m → drop i m ≡ table (λ j. getD m j 0) k i ++ drop (i + k) m
 unfolding table
 from-place m zero i h = let e : i ≡ i + 0 = omega arith in ap (λ (j : ℕ). drop j m) e
 from-place m (suc k) i h =
@@ -34,7 +34,7 @@ from-place m (suc k) i h =
     drop-cons m i 0 (omega arith)
     ∙ ap (λ (l : List ℕ). getD m i 0 ∷ l) (ap (λ (j : ℕ). drop j m) (sym (add-one i)) ∙ from-place m k (i + 1) (omega arith) ∙ ap (λ (j : ℕ). table (λ j. getD m j 0) k (i + 1) ++ drop j m) e)
 
-bit-back : (x : ℕ) → x ≤ 1 → bitOf (eqb x 1) ≡ x
+pub bit-back : (x : ℕ) → x ≤ 1 → bitOf (eqb x 1) ≡ x
 bit-back x h = go (eqb x 1) refl
   where
     go : (b : Bool) → eqb x 1 ≡ b → bitOf b ≡ x

@@ -3,8 +3,8 @@ ghost use mathlib.Core.Path.{_≡_};
 ghost use Prim.Native.Nat.{_+_, _*_, _^_};
 ghost use Rattle.host.specs.Check.{checkNumber};
 
-mod calls;
-mod found;
+pub mod calls;
+pub mod found;
 mod numbers;
 
 use reader::Scan;
@@ -35,8 +35,8 @@ pub extern "C" fn fadc250_check(bytes: &[u8]) -> u64
                 scan = after;
                 at += 4;
             }
-            Step::Refused(refusal) => {
-                return numbered(refusal, scan.place);
+            Step::Refused(refusal, place) => {
+                return numbered(refusal, place);
             }
             Step::Ended => {
                 return numbered(0, scan.place);

@@ -81,7 +81,7 @@ start-judged word e = go (isEnd (formAt startOf word)) (eqb (refusalOf startOf f
     f : Form
     f = formAt startOf word
 
-    go : (a b : Bool) → a ≡ false → J.Ended ≡ withItem word (cond a S.Ended (cond b (S.Went f (after startOf (itemFrom f word))) (S.Refused (refusalOf startOf f word)))) → ⊥
+    go : (a b : Bool) → a ≡ false → J.Ended ≡ withItem word (cond a S.Ended (cond b (S.Went f (after startOf (itemFrom f word))) (S.Refused (refusalOf startOf f word) 0))) → ⊥
     go true b h e = let z : _≡_ {A = ℕ} 0 1 = cc in omega arith
     go false true h e = let z : _≡_ {A = ℕ} 0 1 = cc in omega arith
     go false false h e = let z : _≡_ {A = ℕ} 0 1 = cc in omega arith
@@ -92,7 +92,7 @@ whole-some word words = go (judgeAt startOf word) refl
   where
     go : (j : Judged) → j ≡ judgeAt startOf word → isWhole ((onJudged j 0 (λ t. readFrom t words)) .out) ≡ true → 0 < length ((onJudged j 0 (λ t. readFrom t words)) .items)
     go (J.Took x t) e h = omega arith
-    go (J.Refused n) e h = absurd (false≢true h)
+    go (J.Refused n p) e h = absurd (false≢true h)
     go J.Ended e h = absurd (start-judged word e)
 
 -- ---- a block, word by word

@@ -1,6 +1,6 @@
 -- How long a text can be: at most 23 bytes a word, and one refusal's line. Assumes nothing.
 use Prim.Native.Nat.{ℕ, zero, suc, _+_, _-_, _*_, _/_, _%_, _^_, _≤_, _<_}
-use mathlib.Core.Path.{_≡_, refl}
+use mathlib.Core.Path.{_≡_, refl, sym, ap, _∙_}
 use mathlib.Core.Bool.{Bool, true, false, cond, not, _||_}
 use mathlib.Core.List.{List, [], _∷_, _++_}
 use native.Mathlib.Omega.{arith}
@@ -35,7 +35,7 @@ use Rattle.listing.specs.declared.Listed.{Listed}
 use Rattle.listing.specs.declared.Listed.the-variants as L
 use Rattle.lines.specs.Lines.{blockName, setupName, eventName, clockName, clock27Name, windowName, pulseName, pairName, integralName, timeName, pedName, endName, fillName, emptyName, refusedName, refusedLine, fillLines, clockLine}
 use Rattle.listing.specs.Listing.{highIn, secondOf, recordLines, itemLines, fillerIn, fillersIn, isWhole, outLines, blockLines, linesFrom, lengthWrong, linesOf, listingOf}
-use Rattle.listing.specs.Says.{Says}
+use Rattle.listing.specs.Says.{listedNumber, Says}
 use Rattle.listing.specs.BlockLaws.{whole-some}
 
 -- ---- one record
@@ -94,10 +94,10 @@ small F.End w = record { line = λ b h. omega (arith, size-none); high = tt }
 abbrev Near : Scan → Type 0
 Near s = s .place < 2 ^ 32
 
--- a record is small and the next place near; a refusal's number has two digits
+-- a record is small and the next place near; a refusal's number has two digits, and its place is near
 abbrev Good : Judged → Type 0
 Good (J.Took x t) = Small x × Near t
-Good (J.Refused number) = number < 100
+Good (J.Refused number place) = (number < 100) × (place < 2 ^ 32)
 Good J.Ended = Unit
 
 lt-cond : (b : Bool) (x y m : ℕ) → x < m → y < m → cond b x y < m
@@ -113,17 +113,17 @@ near-after : (s : Scan) (x : Item) → Near (after s x)
 unfolding after onward
 near-after s x = omega arith
 
-good : (s : Scan) (word : ℕ) → Good (judgeAt s word)
+good : (s : Scan) (word : ℕ) → Near s → Good (judgeAt s word)
 unfolding judgeAt stepAt
-good s word = go (isEnd f) (eqb (refusalOf s f word) 0)
+good s word h = go (isEnd f) (eqb (refusalOf s f word) 0)
   where
     f : Form
     f = formAt s word
 
-    go : (a b : Bool) → Good (withItem word (cond a S.Ended (cond b (S.Went f (after s (itemFrom f word))) (S.Refused (refusalOf s f word)))))
+    go : (a b : Bool) → Good (withItem word (cond a S.Ended (cond b (S.Went f (after s (itemFrom f word))) (S.Refused (refusalOf s f word) (s .place)))))
     go true b = tt
     go false true = (small f word, near-after s (itemFrom f word))
-    go false false = refusal-lt s f word
+    go false false = (refusal-lt s f word, h)
 
 -- ---- one block
 
@@ -151,7 +151,7 @@ end-le s h = go (atLimit s) (unfinished (s .phase))
 small-reading : (s : Scan) (words : List ℕ) → Near s → SmallReading (readFrom s words)
 unfolding readFrom itemLines fillersIn
 small-reading s [] h = small-none (endOf s) (end-le s h)
-small-reading s (word ∷ words) h = go (judgeAt s word) (good s word) (λ t n. small-reading t words n)
+small-reading s (word ∷ words) h = go (judgeAt s word) (good s word h) (λ t n. small-reading t words n)
   where
     go : (j : Judged) → Good j → ((t : Scan) → Near t → SmallReading (readFrom t words)) → SmallReading (onJudged j (s .place) (λ t. readFrom t words))
     go (J.Took x t) g r =
@@ -162,7 +162,7 @@ small-reading s (word ∷ words) h = go (judgeAt s word) (good s word) (λ t n. 
           second = g .0 .high;
           ends = i .ends;
         }
-    go (J.Refused n) g r = small-none (Broken n (s .place)) (refused-le n (s .place) g h)
+    go (J.Refused n p) g r = small-none (Broken n p) (refused-le n p (g .0) (g .1))
     go J.Ended g r = small-none (Whole (s .place)) (omega (arith, size-none))
 
 fill-le : (n : ℕ) → n < 10 ^ 17 → size (fillLines n) ≤ 23 * n
@@ -216,6 +216,5 @@ listing-le bytes = go (lengthWrong (length bytes)) refl
 pub always-room : (bytes : List ℕ) {text : List ℕ} {r : Listed} {text′ : List ℕ} {n : ℕ} → 376854 ≤ length text → r ≡ L.NoRoom n → Says (listingOf bytes) text r text′ → ⊥
 always-room bytes {text} h e s =
     let f : leb (length (listingOf bytes)) (length text) ≡ true = le-leb (length (listingOf bytes)) (length text) (omega (arith, listing-le bytes)) in
-    let a = rw f at (s .answer) in
-    let z : _≡_ {A = ℕ} 0 1 = cc in
+    let a : _≡_ {A = ℕ} 9 0 = sym (ap listedNumber e) ∙ s .number ∙ rw f in
     omega arith

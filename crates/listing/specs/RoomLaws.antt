@@ -13,7 +13,7 @@ use Rattle.text.specs.Page.{Page, farthest, put}
 use Rattle.text.specs.PageLaws.{put-length, put-all, place-all}
 use Rattle.listing.specs.declared.Listed.{Listed}
 use Rattle.listing.specs.declared.Listed.the-variants as L
-use Rattle.listing.specs.Says.{Says}
+use Rattle.listing.specs.Says.{listedNumber, listedValue, hasRoom, Says}
 
 nil-of : (l : List ℕ) → length l ≡ 0 → l ≡ []
 nil-of [] e = refl
@@ -30,7 +30,7 @@ module _ (all text none : List ℕ) (n : ℕ) (short : length all ≤ farthest) 
   no-room h =
       let k : length text < n = rw none-put at h in
       let f : leb (length all) (length text) ≡ _ = lt-leb (length all) (length text) (omega (arith, counted)) in
-      record { answer = rw f (ap L.NoRoom counted); bytes = rw (f, none-put) }
+      record { number = rw f; value = counted; bytes = rw (f, none-put) }
 
   pub room : (r : ℕ) (text′ : List ℕ) → n ≤ length (none ++ text) → length text < farthest → _≡_ {A = Page} (text′, r) (put (none ++ text, 0) all) → Says all text (L.Text r) text′
   room r text′ h m g =
@@ -39,22 +39,30 @@ module _ (all text none : List ℕ) (n : ℕ) (short : length all ≤ farthest) 
       let f : leb (length all) (length text) ≡ _ = le-leb (length all) (length text) i in
       let g′ : _≡_ {A = Page} (text′, r) (put (text, 0) all) = rw none-put at g in
       record {
-        answer = rw f (ap L.Text (ap (λ (p : Page). p .1) g′ ∙ place-all text all ∙ omega arith));
+        number = rw f;
+        value = ap (λ (p : Page). p .1) g′ ∙ place-all text all ∙ omega arith;
         bytes = rw f (ap (λ (p : Page). p .0) g′ ∙ put-all text all i (omega arith));
       }
 
+-- an answer is known by its number and value
+listed-same : (r r′ : Listed) → listedNumber r ≡ listedNumber r′ → listedValue r ≡ listedValue r′ → r ≡ r′
+listed-same (L.Text n) (L.Text m) e f = ap L.Text f
+listed-same (L.Text n) (L.NoRoom m) e f = absurd (omega (arith, e))
+listed-same (L.NoRoom n) (L.Text m) e f = absurd (omega (arith, e))
+listed-same (L.NoRoom n) (L.NoRoom m) e f = ap L.NoRoom f
+
 -- two answers that the statement allows are equal, and so is what they leave
 pub one-listing : {all text : List ℕ} {r r′ : Listed} {b b′ : List ℕ} → Says all text r b → Says all text r′ b′ → (r ≡ r′) × (b ≡ b′)
-one-listing p q = (one-result (p .answer) (q .answer), one-result (p .bytes) (q .bytes))
+one-listing p q = (listed-same _ _ (one-result (p .number) (q .number)) (one-result (p .value) (q .value)), one-result (p .bytes) (q .bytes))
 
 -- a text that is told lies in the buffer
 module _ {all text : List ℕ} {r : Listed} {k : ℕ} {text′ : List ℕ} (e : r ≡ L.Text k) (s : Says all text r text′) where
   pub within : k ≤ length text′
-  within = go (leb (length all) (length text)) (sym e ∙ s .answer) (s .bytes)
+  within = go (hasRoom all text) (sym (ap listedNumber e) ∙ s .number) (sym (ap listedValue e) ∙ s .value) (s .bytes)
     where
-      go : (b : Bool) → L.Text k ≡ cond b (L.Text (length all)) (L.NoRoom (length all)) → text′ ≡ cond b (all ++ drop (length all) text) text → k ≤ length text′
-      go true f g = let z : k ≡ length all = cc in rw (z, g, length-append) (omega arith)
-      go false f g = let z : _≡_ {A = ℕ} 0 1 = cc in absurd (omega arith)
+      go : (b : Bool) → _≡_ {A = ℕ} 0 (cond b 0 9) → k ≡ length all → text′ ≡ cond b (all ++ drop (length all) text) text → k ≤ length text′
+      go true f z g = rw (z, g, length-append) (omega arith)
+      go false f z g = absurd (omega (arith, f))
 
   pub within-take : k ≡ length (take k text′)
   within-take = sym (length-take-le k text′ within)

@@ -1,7 +1,7 @@
 -- What the lister's functions promise of their answers and of the lent buffer. Assumes nothing.
 use Prim.Native.Nat.{ℕ, _*_}
 use mathlib.Core.Path.{_≡_}
-use mathlib.Core.Bool.{cond}
+use mathlib.Core.Bool.{Bool, cond}
 use mathlib.Core.List.{List, _++_}
 use lib.Dec.{leb}
 use lib.ListN.{length, drop}
@@ -23,14 +23,21 @@ pub record BlockSays (text : List ℕ) (at : ℕ) (lines : List Line) (size : �
 abbrev pub ReadingSays : List ℕ → ℕ → Reading → Block → List ℕ → Type 0
 ReadingSays text at r b text′ = BlockSays text at (blockLines r) (4 * length (r .items)) (r .out) b text′
 
--- the text fits: its length; else that it does not, and how much room it needs
-abbrev pub answerOf : List ℕ → List ℕ → Listed
-answerOf all text = cond (leb (length all) (length text)) (L.Text (length all)) (L.NoRoom (length all))
+-- the paper's number of an answer: 9, a "buffer too short for all that call writes", 0 for a text
+abbrev pub listedNumber : Listed → ℕ
+listedNumber (L.Text n) = 0
+listedNumber (L.NoRoom n) = 9
 
--- the text fits: it stands in front, the rest as it was; else all is as it was
-abbrev pub leftOf : List ℕ → List ℕ → List ℕ
-leftOf all text = cond (leb (length all) (length text)) (all ++ drop (length all) text) text
+-- the length of the text, and the room that it needs
+abbrev pub listedValue : Listed → ℕ
+listedValue (L.Text n) = n
+listedValue (L.NoRoom n) = n
 
+abbrev pub hasRoom : List ℕ → List ℕ → Bool
+hasRoom all text = leb (length all) (length text)
+
+-- the text stands in front and the rest is as it was; where it has no room, all is as it was
 pub record Says (all text : List ℕ) (r : Listed) (text′ : List ℕ) : Type 0 where
-  pub answer : r ≡ answerOf all text
-  pub bytes : text′ ≡ leftOf all text
+  pub number : listedNumber r ≡ cond (hasRoom all text) 0 9
+  pub value : listedValue r ≡ length all
+  pub bytes : text′ ≡ cond (hasRoom all text) (all ++ drop (length all) text) text

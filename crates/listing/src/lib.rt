@@ -72,7 +72,7 @@ fn second_in(bytes: &[u8], scan: Scan) -> Second
     let judged = scan.judge(first_word(bytes));
     match judged {
         Judged::Took(item, _) => high_in(item),
-        Judged::Refused(_) => Second::Nothing,
+        Judged::Refused(_, _) => Second::Nothing,
         Judged::Ended => Second::Nothing,
     }
 }
@@ -157,8 +157,8 @@ fn list_block(bytes: &[u8], text: &mut [u8], from: usize) -> Block
                 fillers += filler_in(item);
                 scan = after;
             }
-            Judged::Refused(number) => {
-                return stop(text, at, fillers, number, scan.place, next);
+            Judged::Refused(number, place) => {
+                return stop(text, at, fillers, number, place, next);
             }
             Judged::Ended => {
                 return stop(text, at, fillers, 0, scan.place, next);

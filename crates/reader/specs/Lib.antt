@@ -1,3 +1,5 @@
 pub mod Reader
+pub mod Answers
 pub mod ReaderLaws
 pub mod RunLaws
+pub mod AnswersLaws

@@ -317,16 +317,17 @@ after s x = record { place = onward (s .place); slot = slotAfter s x; left = lef
 
 -- ---- the judgement of one word
 
+-- "The refusal names the word's place, from 0 at its block's first word."
 abbrev pub stepBy : Scan → Form → ℕ → ℕ → Step
-stepBy s f word refusal = cond (isEnd f) S.Ended (cond (eqb refusal 0) (S.Went f (after s (itemFrom f word))) (S.Refused refusal))
+stepBy s f word refusal = cond (isEnd f) S.Ended (cond (eqb refusal 0) (S.Went f (after s (itemFrom f word))) (S.Refused refusal (s .place)))
 
--- the word's form and the scan after it, the number of its refusal, or that the block ends before it
+-- the word's form and the scan after it, the number of its refusal and its place, or that the block ends before it
 unfoldable pub stepAt : Scan → ℕ → Step
 stepAt s word = stepBy s (formAt s word) word (refusalOf s (formAt s word) word)
 
 abbrev pub withItem : ℕ → Step → Judged
 withItem word (S.Went f t) = J.Took (itemFrom f word) t
-withItem word (S.Refused n) = J.Refused n
+withItem word (S.Refused n p) = J.Refused n p
 withItem word S.Ended = J.Ended
 
 -- the same with the record
@@ -366,7 +367,7 @@ just o = record { items = []; out = o }
 
 abbrev pub onJudged : Judged → ℕ → (Scan → Reading) → Reading
 onJudged (J.Took x t) place go = then x (go t)
-onJudged (J.Refused n) place go = just (Broken n place)
+onJudged (J.Refused n p) place go = just (Broken n p)
 onJudged J.Ended place go = just (Whole place)
 
 -- all records from s on, and how it ends
@@ -376,7 +377,7 @@ readFrom s (word ∷ words) = onJudged (judgeAt s word) (s .place) (λ t. readFr
 
 abbrev pub onStep : Step → ℕ → (Scan → Out) → Out
 onStep (S.Went f t) place go = go t
-onStep (S.Refused n) place go = Broken n place
+onStep (S.Refused n p) place go = Broken n p
 onStep S.Ended place go = Whole place
 
 -- how it ends, no record made

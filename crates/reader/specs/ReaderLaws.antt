@@ -94,7 +94,7 @@ no-end f h = go (isEnd f) h
     go true h = h
     go false h = refl
 
-pub step-limit : (s : Scan) (word : ℕ) → atLimit s ≡ true → stepAt s word ≡ S.Refused 14
+pub step-limit : (s : Scan) (word : ℕ) → atLimit s ≡ true → stepAt s word ≡ S.Refused 14 (s .place)
 unfolding stepAt refusalOf firstOf formAt atLimit
 step-limit s word h =
     rw (h, no-end (formAt s word) (form-open (s .phase) (read 31 31 word) (read 30 27 word) (and-left (unfinished (s .phase)) _ h)))
@@ -136,13 +136,29 @@ accepted s word {f} {u} e = go (isEnd g) refl (eqb n 0) refl e
     n : ℕ
     n = refusalOf s g word
 
-    go : (b : Bool) → isEnd g ≡ b → (d : Bool) → eqb n 0 ≡ d → cond b S.Ended (cond d (S.Went g (after s (itemFrom g word))) (S.Refused n)) ≡ S.Went f u → Accepted s word f u
+    go : (b : Bool) → isEnd g ≡ b → (d : Bool) → eqb n 0 ≡ d → cond b S.Ended (cond d (S.Went g (after s (itemFrom g word))) (S.Refused n (s .place))) ≡ S.Went f u → Accepted s word f u
     go true i d z e = let x : _≡_ {A = ℕ} 0 1 = cc in absurd (omega arith)
     go false i false z e = let x : _≡_ {A = ℕ} 0 1 = cc in absurd (omega arith)
     go false i true z e =
         let same : g ≡ f = cc in
         let off : AllOff (refusals s g word) = none (refusals s g word) refl (eqb-true n 0 z) in
         record { form = same; here = sym (ap isEnd same) ∙ i; off = rw same at off; scan = cc }
+
+-- a refusal is at the scan's place
+pub refused-here : (s : Scan) (word : ℕ) {n p : ℕ} → stepAt s word ≡ S.Refused n p → p ≡ s .place
+unfolding stepAt
+refused-here s word {n} {p} e = go (isEnd f) (eqb k 0) e
+  where
+    f : Form
+    f = formAt s word
+
+    k : ℕ
+    k = refusalOf s f word
+
+    go : (a b : Bool) → cond a S.Ended (cond b (S.Went f (after s (itemFrom f word))) (S.Refused k (s .place))) ≡ S.Refused n p → p ≡ s .place
+    go true b e = let x : _≡_ {A = ℕ} 0 1 = cc in absurd (omega arith)
+    go false true e = let x : _≡_ {A = ℕ} 0 1 = cc in absurd (omega arith)
+    go false false e = cc
 
 -- a filler stands behind the trailer
 pub filler-tail : (s : Scan) (word : ℕ) → formAt s word ≡ F.Filler → unfinished (s .phase) ≡ false

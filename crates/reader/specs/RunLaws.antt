@@ -35,7 +35,7 @@ check-reads s (word ∷ words) = go (stepAt s word) (λ t. check-reads t words)
   where
     go : (x : Step) → ((t : Scan) → (readFrom t words) .out ≡ checkFrom t words) → (onJudged (withItem word x) (s .place) (λ t. readFrom t words)) .out ≡ onStep x (s .place) (λ t. checkFrom t words)
     go (S.Went f t) r = r t
-    go (S.Refused n) r = refl
+    go (S.Refused n p) r = refl
     go S.Ended r = refl
 
 -- the run at a word that was taken, refused, or ends the block
@@ -56,18 +56,18 @@ items-le s (word ∷ words) = go (judgeAt s word) (λ t. items-le t words)
   where
     go : (j : Judged) → ((t : Scan) → length ((readFrom t words) .items) ≤ length words) → length ((onJudged j (s .place) (λ t. readFrom t words)) .items) ≤ suc (length words)
     go (J.Took x t) r = omega (arith, r t)
-    go (J.Refused n) r = omega arith
+    go (J.Refused n p) r = omega arith
     go J.Ended r = omega arith
 
 -- a refusal has a number
-pub refused-some : (s : Scan) (word : ℕ) {n : ℕ} (place : ℕ) → J.Refused n ≡ judgeAt s word → Broken n place ≡ outOf n place
+pub refused-some : (s : Scan) (word : ℕ) {n p : ℕ} → J.Refused n p ≡ judgeAt s word → Broken n p ≡ outOf n p
 unfolding judgeAt stepAt
-refused-some s word {n} place e = go (isEnd (formAt s word)) (eqb (refusalOf s (formAt s word) word) 0) refl e
+refused-some s word {n} {p} e = go (isEnd (formAt s word)) (eqb (refusalOf s (formAt s word) word) 0) refl e
   where
     f : Form
     f = formAt s word
 
-    go : (a b : Bool) → eqb (refusalOf s f word) 0 ≡ b → J.Refused n ≡ withItem word (cond a S.Ended (cond b (S.Went f (after s (itemFrom f word))) (S.Refused (refusalOf s f word)))) → Broken n place ≡ outOf n place
+    go : (a b : Bool) → eqb (refusalOf s f word) 0 ≡ b → J.Refused n p ≡ withItem word (cond a S.Ended (cond b (S.Went f (after s (itemFrom f word))) (S.Refused (refusalOf s f word) (s .place)))) → Broken n p ≡ outOf n p
     go true b h e = let z : _≡_ {A = ℕ} 0 1 = cc in absurd (omega arith)
     go false true h e = let z : _≡_ {A = ℕ} 0 1 = cc in absurd (omega arith)
     go false false h e =

@@ -1,6 +1,7 @@
 // Reads a block of the format word by word: where the reading stands, and what one word does to it.
 ghost use mathlib.Core.Path.{_≡_};
-ghost use Rattle.reader.specs.Reader.{startOf, endNumber, stepAt, judgeAt};
+ghost use Rattle.reader.specs.Reader.{startOf, endNumber};
+ghost use Rattle.reader.specs.Answers.{StepSays, JudgedSays};
 use items::Form;
 use items::Item;
 
@@ -36,17 +37,18 @@ pub struct Scan {
     pub phase: Phase,
 }
 
-// What one word does: it is of that form and the scan goes on, it is refused with a number, or the block ends before it.
+// What one word does: it is of that form and the scan goes on, it is refused with a number at its place, or the block ends
+// before it.
 pub enum Step {
     Went(Form, Scan),
-    Refused(u32),
+    Refused(u32, u32),
     Ended,
 }
 
 // The same with the word's record.
 pub enum Judged {
     Took(Item, Scan),
-    Refused(u32),
+    Refused(u32, u32),
     Ended,
 }
 
@@ -65,10 +67,10 @@ impl Scan {
 
     // One word; no record is made.
     pub fn step(self, word: u32) -> Step
-        ensures { λ r. ⌜ r ≡ stepAt self word ⌝ }
+        ensures { λ r. ⌜ StepSays self word r ⌝ }
     {
         if question::at_limit(self) {
-            return Step::Refused(14);
+            return Step::Refused(14, self.place);
         }
         let p = self.phase;
         if let Phase::Window(n, odd) = p {
@@ -82,7 +84,7 @@ impl Scan {
         if refusal == 0 {
             Step::Went(form, after::scan_after(self, form, word))
         } else {
-            Step::Refused(refusal)
+            Step::Refused(refusal, self.place)
         }
     }
 
@@ -99,12 +101,12 @@ impl Scan {
 
     // One word with its record.
     pub fn judge(self, word: u32) -> Judged
-        ensures { λ r. ⌜ r ≡ judgeAt self word ⌝ }
+        ensures { λ r. ⌜ JudgedSays self word r ⌝ }
     {
         let step = self.step(word);
         match step {
             Step::Went(form, after) => Judged::Took(Item::take_apart(form, word), after),
-            Step::Refused(number) => Judged::Refused(number),
+            Step::Refused(number, place) => Judged::Refused(number, place),
             Step::Ended => Judged::Ended,
         }
     }

@@ -16,11 +16,11 @@ pub(crate) fn window_step(scan: Scan, n: u32, odd: bool, word: u32) -> Step
     ensures { λ r. ⌜ r ≡ stepBy scan (formAt scan word) word (firstOf (drop 1 (refusals scan (formAt scan word) word))) ⌝ }
 {
     if fields::take(word, 31, 1) != 0 {
-        return Step::Refused(12);
+        return Step::Refused(12, scan.place);
     }
     let flag = question::window_flag_wrong(n, odd, fields::take(word, 13, 1));
     if question::pair_bits_wrong(word, flag) {
-        return Step::Refused(13);
+        return Step::Refused(13, scan.place);
     }
     Step::Went(Form::Pair, after::moved(scan, after::window_paired(n, odd)))
 }

@@ -1,3 +1,5 @@
 pub mod Next
+pub mod Answers
 pub mod AtLaws
 pub mod NextLaws
+pub mod AnswersLaws

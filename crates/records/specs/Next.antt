@@ -42,7 +42,7 @@ pairDue (P.Tail n) more = false
 
 abbrev pub onPair : Step → Scan → ℕ → (Scan → Pairing) → Pairing
 onPair (S.Went f u) t n go = go u
-onPair (S.Refused r) t n go = G.Bad r (t .place)
+onPair (S.Refused r place) t n go = G.Bad r place
 onPair S.Ended t n go = G.All n t
 
 -- the pairs from t on, n of them read; a count grows up to its largest value and stays there
@@ -79,7 +79,7 @@ withHigh r t (I.Filler x) u = N.Took (R.Time27 r) t
 
 abbrev pub onHigh : Judged → TriggerTime → Scan → Next
 onHigh (J.Took x u) r t = withHigh r t x u
-onHigh (J.Refused n) r t = N.Took (R.Time27 r) t
+onHigh (J.Refused n place) r t = N.Took (R.Time27 r) t
 onHigh J.Ended r t = N.Took (R.Time27 r) t
 
 -- a first time word with the second where that follows
@@ -91,7 +91,7 @@ timeFrom r t (word ∷ words) = onHigh (judgeAt t word) r t
 
 abbrev pub onFiller : Step → ℕ → ℕ → Scan → (Scan → Next) → Next
 onFiller (S.Went f u) slot n t go = go u
-onFiller (S.Refused r) slot n t go = N.Took (R.Fillers slot n) t
+onFiller (S.Refused r place) slot n t go = N.Took (R.Fillers slot n) t
 onFiller S.Ended slot n t go = N.Took (R.Fillers slot n) t
 
 -- as many as follow, n of them read; behind the trailer no other word is taken
@@ -124,7 +124,7 @@ ended refusal place = cond (eqb refusal 0) (N.End place) (N.Refused refusal plac
 
 abbrev pub onJudged : Judged → ℕ → List ℕ → Next
 onJudged (J.Took x t) place words = recordFrom x t words
-onJudged (J.Refused n) place words = N.Refused n place
+onJudged (J.Refused n p) place words = N.Refused n p
 onJudged J.Ended place words = N.End place
 
 -- the words are those from s on

@@ -130,7 +130,7 @@ none-taken t word words due = go (stepAt t word) refl
     go (S.Went f u) e =
         ap (λ (x : Reading). startsPair (x .items)) (read-at t word words (judge-by t word e))
         ∙ (ap (λ (g : Form). isPair (itemFrom g word)) (sym (accepted t word e .form)) ∙ none-form (t .phase) (eqb (read 31 31 word) 0) (read 30 27 word) word due)
-    go (S.Refused n) e = ap (λ (x : Reading). startsPair (x .items)) (read-at t word words (judge-by t word e))
+    go (S.Refused n p) e = ap (λ (x : Reading). startsPair (x .items)) (read-at t word words (judge-by t word e))
     go S.Ended e = ap (λ (x : Reading). startsPair (x .items)) (read-at t word words (judge-by t word e))
 
 -- ---- behind the trailer, only a filler of the block's slot is taken
@@ -258,7 +258,7 @@ pairs-say t n (word ∷ words) h = by-due (pairDue (t .phase) (isContinuation wo
               stop = a .stop;
             }
         more (G.Bad k at) a = ap (λ (x : Reading). x .out) run ∙ a
-    by-step (S.Refused k) e due r = ap (λ (x : Reading). x .out) (read-at t word words (judge-by t word e))
+    by-step (S.Refused k p) e due r = ap (λ (x : Reading). x .out) (read-at t word words (judge-by t word e))
     by-step S.Ended e due r = no-pair t n (word ∷ words) h (ap (λ (x : Reading). startsPair (x .items)) (read-at t word words (judge-by t word e)))
 
     by-due : (b : Bool) → pairDue (t .phase) (isContinuation word) ≡ b → ((u : Scan) → SaysPairs u (onward n) words (pairsFrom u (onward n) words)) → SaysPairs t n (word ∷ words) (cond b (onPair (stepAt t word) t n (λ u. pairsFrom u (onward n) words)) (G.All n t))
@@ -298,7 +298,7 @@ fillers-say slot n t (word ∷ words) h end same = go (stepAt t word) refl (λ u
           many = onward-add n (length (b .items)) (b .count) (b .many);
           run = read-at t word words (judge-by t word went) ∙ ap (then (itemFrom F.Filler word)) (b .run);
         }
-    go (S.Refused k) e r = no-filler slot n t (word ∷ words) h
+    go (S.Refused k p) e r = no-filler slot n t (word ∷ words) h
     go S.Ended e r = no-filler slot n t (word ∷ words) h
 
 -- ---- what reading on answers
@@ -357,7 +357,7 @@ time-says s t word (next ∷ words) r e = by-judged (judgeAt t next) refl
         by-item (I.Pedestal x) f = alone
         by-item (I.Empty x) f = alone
         by-item (I.Filler x) f = alone
-    by-judged (J.Refused n) f = alone
+    by-judged (J.Refused n p) f = alone
     by-judged J.Ended f = alone
 
 -- a raw item, by what its pairs say
@@ -422,5 +422,5 @@ next-says s (word ∷ words) = by-step (stepAt s word) refl
 
     by-step : (y : Step) → stepAt s word ≡ y → SaysNext s (word ∷ words) (onJudged (withItem word y) (s .place) words)
     by-step (S.Went f t) e = let a = accepted s word e in by-form f t e a (place-after s t (itemFrom f word) (a .scan))
-    by-step (S.Refused n) e = ap (λ (x : Reading). x .out) (read-at s word words (judge-by s word e))
+    by-step (S.Refused n p) e = ap (λ (x : Reading). x .out) (read-at s word words (judge-by s word e))
     by-step S.Ended e = read-at s word words (judge-by s word e)

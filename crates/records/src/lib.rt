@@ -2,7 +2,8 @@
 ghost use mathlib.Core.Path.{_≡_};
 ghost use lib.ListN.{drop};
 ghost use Rattle.reader.specs.Reader.{onward, endNumber};
-ghost use Rattle.records.specs.Next.{partOf, withHigh, timeFrom, fillersFrom, recordFrom, ended, nextAt};
+ghost use Rattle.records.specs.Next.{partOf, withHigh, timeFrom, fillersFrom, recordFrom, ended};
+ghost use Rattle.records.specs.Answers.{NextSays};
 use answer::Next;
 use answer::Pairs;
 use answer::Record;
@@ -51,7 +52,7 @@ fn time_from(words: &[u32], from: usize, time: TriggerTime, scan: Scan) -> Next
         let judged = scan.judge(words[from]);
         match judged {
             Judged::Took(item, after) => with_high(time, scan, item, after),
-            Judged::Refused(_) => Next::Took(Record::Time27(time), scan),
+            Judged::Refused(_, _) => Next::Took(Record::Time27(time), scan),
             Judged::Ended => Next::Took(Record::Time27(time), scan),
         }
     } else {
@@ -74,7 +75,7 @@ fn fillers_from(words: &[u32], from: usize, slot: u32, scan: Scan) -> Next
                 count = more(count);
                 at += 1;
             }
-            Step::Refused(_) => {
+            Step::Refused(_, _) => {
                 return Next::Took(Record::Fillers(slot, count), t);
             }
             Step::Ended => {
@@ -120,14 +121,14 @@ fn end_of(scan: Scan) -> Next
 
 // The next record of the block whose first word is the first of `words`.
 pub fn next(words: &[u32], scan: Scan) -> Next
-    ensures { λ r. ⌜ r ≡ nextAt (now (words .entry)) scan ⌝ }
+    ensures { λ r. ⌜ NextSays (now (words .entry)) scan r ⌝ }
 {
     let at = scan.place as usize;
     if at < words.len() {
         let judged = scan.judge(words[at]);
         match judged {
             Judged::Took(item, after) => record_from(words, at + 1, item, after),
-            Judged::Refused(number) => Next::Refused(number, scan.place),
+            Judged::Refused(number, place) => Next::Refused(number, place),
             Judged::Ended => Next::End(scan.place),
         }
     } else {

@@ -66,8 +66,8 @@ fn pairs_from(words: &[u32], from: usize, scan: Scan) -> Pairing
                     count = more(count);
                     at += 1;
                 }
-                Step::Refused(number) => {
-                    return Pairing::Bad(number, t.place);
+                Step::Refused(number, place) => {
+                    return Pairing::Bad(number, place);
                 }
                 Step::Ended => {
                     return Pairing::All(count, t);

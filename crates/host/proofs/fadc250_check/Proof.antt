@@ -31,7 +31,7 @@ stepped c e =
     let l = c .before .before .before .before .before .before .before .loop in
     let bytes = c .before .before .before .before .before .before .before .before .before .before .before .args .bytes .now in
     l .inv .1
-    ∙ run-at bytes (l .at) (l .scan) (omega arith) (c .step .ensures ∙ ap (stepAt (l .scan)) (c .before .of-bytes .ensures)) e
+    ∙ run-at bytes (l .at) (l .scan) (omega arith) (c .step .ensures .answer ∙ ap (stepAt (l .scan)) (c .before .of-bytes .ensures)) e
 
 -- the bytes are whole words
 whole : (c : tie.After-step Inv-loop μ-loop) → length (c .before .before .before .before .before .before .before .before .before .before .before .args .bytes .now) % 4 ≡ 0

@@ -32,7 +32,7 @@ judged : (c : tie.After-judge Inv-loop μ-loop) {t : Judged} → c .judge .resul
 judged c e =
     let l = c .before .before .before .before .loop in
     let a = c .before .before .before .before .before .before .before .before .args in
-    left-is (l .inv .3) (read-at (a .bytes .now) (l .next) (l .scan) (omega arith) (c .before .first-word .ensures ∙ ap (λ (b : List ℕ). getD (wordsOfBytes b) 0 0) (tail-is (a .bytes .now) (l .next))) (c .judge .ensures) e)
+    left-is (l .inv .3) (read-at (a .bytes .now) (l .next) (l .scan) (omega arith) (c .before .first-word .ensures ∙ ap (λ (b : List ℕ). getD (wordsOfBytes b) 0 0) (tail-is (a .bytes .now) (l .next))) (c .judge .ensures .answer) e)
 
 loop-holds : tie.Need-loop-holds Inv-loop μ-loop
 loop-holds c =
@@ -55,7 +55,7 @@ returns : tie.Need-returns Inv-loop μ-loop
 returns c =
     let e = c .before .before .before .before .before .judged2 .given .1 in
     let j = c .before .before .before .before .before .before .before in
-    left-none (left-is (judged j e) (ap just (refused-some _ _ _ (sym e ∙ j .judge .ensures)))) (c .before .before .stop .ensures)
+    left-none (left-is (judged j e) (ap just (refused-some _ _ (sym e ∙ j .judge .ensures .answer)))) (c .before .before .stop .ensures)
 
 same-length-2 : tie.Need-same-length-2 Inv-loop μ-loop
 same-length-2 c = c .before .before .stop2 .kept .0 ∙ c .before .before .before .before .before .before .before .before .before .before .loop .inv .2

@@ -9,13 +9,13 @@ returns : tie.Need-returns
 returns c = second-none (c .before .before .args .bytes .now) (c .before .before .args .scan) (c .if1 .taken)
 
 returns-2 : tie.Need-returns-2
-returns-2 c = c .high-in .ensures ∙ second-at (c .before .before .before .before .before .before .before .before .args .bytes .now) (c .before .before .before .before .before .before .before .before .args .scan) (c .before .before .before .before .before .before .if1 .left) (c .before .before .before .before .before .first-word .ensures) (c .before .before .before .before .judge .ensures) (c .before .before .judged .given .1)
+returns-2 c = c .high-in .ensures ∙ second-at (c .before .before .before .before .before .before .before .before .args .bytes .now) (c .before .before .before .before .before .before .before .before .args .scan) (c .before .before .before .before .before .before .if1 .left) (c .before .before .before .before .before .first-word .ensures) (c .before .before .before .before .judge .ensures .answer) (c .before .before .judged .given .1)
 
 returns-3 : tie.Need-returns-3
-returns-3 c = second-at (c .before .before .before .before .before .before .args .bytes .now) (c .before .before .before .before .before .before .args .scan) (c .before .before .before .before .if1 .left) (c .before .before .before .first-word .ensures) (c .before .before .judge .ensures) (c .enum-told .given .1)
+returns-3 c = second-at (c .before .before .before .before .before .before .args .bytes .now) (c .before .before .before .before .before .before .args .scan) (c .before .before .before .before .if1 .left) (c .before .before .before .first-word .ensures) (c .before .before .judge .ensures .answer) (c .enum-told .given .1)
 
 returns-4 : tie.Need-returns-4
-returns-4 c = second-at (c .before .before .before .before .before .before .args .bytes .now) (c .before .before .before .before .before .before .args .scan) (c .before .before .before .before .if1 .left) (c .before .before .before .first-word .ensures) (c .before .before .judge .ensures) (c .enum-told2 .given .1)
+returns-4 c = second-at (c .before .before .before .before .before .before .args .bytes .now) (c .before .before .before .before .before .before .args .scan) (c .before .before .before .before .if1 .left) (c .before .before .before .first-word .ensures) (c .before .before .judge .ensures .answer) (c .enum-told2 .given .1)
 
 pub second-in-spec : {M : Type 1} → statement M
 second-in-spec =

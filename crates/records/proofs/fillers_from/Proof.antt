@@ -25,7 +25,7 @@ filled : (c : tie.After-step Inv-loop μ-loop) {y : Step} → c .step .result �
 filled c e =
     let l = c .before .before .before .loop in
     let a = c .before .before .before .before .before .args in
-    l .inv ∙ fillers-at (a .words .now) (l .at) (l .t) (omega arith) (a .slot) (l .count) (c .step .ensures) e
+    l .inv ∙ fillers-at (a .words .now) (l .at) (l .t) (omega arith) (a .slot) (l .count) (c .step .ensures .answer) e
 
 loop-holds : tie.Need-loop-holds Inv-loop μ-loop
 loop-holds c = refl

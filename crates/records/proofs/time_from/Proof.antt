@@ -11,7 +11,7 @@ use Rattle.records.proofs.time_from.Tie as tie
 
 -- what is answered of the word that follows
 judged : (c : tie.After-judge) {y : Judged} → c .judge .result ≡ y → let a = c .before .before .before .before .args in timeFrom (a .time) (a .scan) (drop (a .from) (a .words .now)) ≡ onHigh y (a .time) (a .scan)
-judged c e = let a = c .before .before .before .before .args in time-at (a .words .now) (a .from) (a .scan) (omega arith) (a .time) (c .judge .ensures) e
+judged c e = let a = c .before .before .before .before .args in time-at (a .words .now) (a .from) (a .scan) (omega arith) (a .time) (c .judge .ensures .answer) e
 
 returns : tie.Need-returns
 returns c = c .with-high .ensures ∙ sym (judged (c .before .before .before .before) (c .before .before .judged .given .1))

@@ -2,18 +2,19 @@
 use mathlib.Core.Path.{sym}
 use borrow.Author.Needs.{needs}
 use Rattle.reader.specs.ReaderLaws.{judge-by}
+use Rattle.reader.specs.AnswersLaws.{judge-says}
 use Rattle.reader.proofs.Via.{via}
 use Rattle.reader.proofs.Scan.judge.Statement.{statement}
 use Rattle.reader.proofs.Scan.judge.Tie as tie
 
 returns : tie.Need-returns
-returns c = rw (c .take-apart .ensures) (sym (judge-by _ _ (via (c .before .before .before .before .step .ensures) (c .before .before .step2 .given .1))))
+returns c = judge-says _ _ (rw (c .take-apart .ensures) (sym (judge-by _ _ (via (c .before .before .before .before .step .ensures .answer) (c .before .before .step2 .given .1)))))
 
 returns-2 : tie.Need-returns-2
-returns-2 c = sym (judge-by _ _ (via (c .before .before .before .step .ensures) (c .before .step3 .given .1)))
+returns-2 c = judge-says _ _ (sym (judge-by _ _ (via (c .before .before .before .step .ensures .answer) (c .before .step3 .given .1))))
 
 returns-3 : tie.Need-returns-3
-returns-3 c = sym (judge-by _ _ (via (c .before .before .step .ensures) (c .enum-told .given .1)))
+returns-3 c = judge-says _ _ (sym (judge-by _ _ (via (c .before .before .step .ensures .answer) (c .enum-told .given .1))))
 
 pub judge-spec : {M : Type 1} → statement M
 judge-spec =

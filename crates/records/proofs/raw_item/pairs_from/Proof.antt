@@ -26,7 +26,7 @@ paired : (c : tie.After-step Inv-loop μ-loop) {y : Step} → c .step .result �
 paired c e =
     let l = c .before .before .before .before .before .before .loop in
     let due = via (c .before .before .pair-due .ensures ∙ ap (pairDue (l .t .phase)) (c .before .before .before .is-continuation .ensures)) (c .before .if1 .taken) in
-    l .inv ∙ pairs-at (c .before .before .before .before .before .before .before .before .args .words .now) (l .at) (l .t) (omega arith) (l .count) due (c .step .ensures) e
+    l .inv ∙ pairs-at (c .before .before .before .before .before .before .before .before .args .words .now) (l .at) (l .t) (omega arith) (l .count) due (c .step .ensures .answer) e
 
 loop-holds : tie.Need-loop-holds Inv-loop μ-loop
 loop-holds c = refl

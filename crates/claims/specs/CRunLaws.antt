@@ -1,0 +1,194 @@
+-- Demands 2 and 3 from C: a run of the C calls is a run of the calls, so what the calls write, and a channel's words, are what C gets. Assumes nothing.
+use Prim.Native.Nat.{ℕ, _-_, _^_, _<_}
+use mathlib.Core.Path.{_≡_, refl, sym, ap, _∙_, subst}
+use mathlib.Core.Bool.{Bool, true, false, cond}
+use mathlib.Core.List.{List, [], _∷_, _++_}
+use native.Mathlib.Omega.{arith}
+use lib.ListN.{length, getD, take, drop}
+use Rattle.ground.specs.Order.{Perm}
+use Rattle.settings.specs.Refusal.{numberOf}
+use Rattle.items.specs.declared.Item.{Item}
+use Rattle.channel.specs.Channel.{commonOf, channelWords}
+use Rattle.reader.specs.Reader.{startOf}
+use Rattle.writer.specs.declared.State.{State}
+use Rattle.writer.specs.declared.Finished.{Finished}
+use Rattle.writer.specs.Calls.{OpenEventSays, CloseSays, endItems, FinishSays}
+use Rattle.writer.specs.CallsLaws.{done}
+use Rattle.host.specs.Check.{checkNumber}
+use Rattle.host.specs.Face.{isState, table, marksFrom, stateFrom, numbersOf, onState, FinishFace}
+use Rattle.host.specs.BackLaws.{Loads, numbers-back}
+use Rattle.claims.specs.Order.{Bench, Post, PostRun, Apart}
+use Rattle.claims.specs.Order as P
+use Rattle.claims.specs.OrderLaws.{order}
+use Rattle.claims.specs.Own.{EventRun, windowOf, ofChannel, wordsFor}
+use Rattle.claims.specs.AloneLaws.{own-words, no-window, own-alone}
+use Rattle.claims.specs.NothingLost.{AllWords}
+use Rattle.claims.specs.Run.{Run}
+use Rattle.claims.specs.Run as R
+use Rattle.claims.specs.RunLaws.{ReadBack, run-reads-back}
+use Rattle.claims.specs.Reads.{Reads}
+use Rattle.claims.specs.ReadsLaws.{run-next}
+use Rattle.claims.specs.CheckLaws.{bytesOfWords, run-checked}
+use Rattle.claims.specs.FromC.{Call, CRun, IsRun, CPostRun, CEventRun, settingsOf, cWordsFor}
+use Rattle.claims.specs.FromC as C
+use Rattle.claims.specs.FromCLaws.{over, below, open-block-call, open-event-call, post-call, close-call, finish-call}
+
+-- ---- a run
+
+-- a call that gave 0 was on a state
+was-state : (n : List ℕ) (k : ℕ) → 0 ≡ onState n k → isState n ≡ true
+was-state n k h = go (isState n) h
+  where
+    go : (b : Bool) → 0 ≡ cond b k 10 → b ≡ true
+    go true e = refl
+    go false e = absurd (omega arith)
+
+on-state : (n : List ℕ) (k : ℕ) → isState n ≡ true → onState n k ≡ k
+on-state n k e = ap (λ (b : Bool). cond b k 10) e
+
+sixteen : (n : List ℕ) → length (stateFrom n .posted) ≡ 16
+unfolding stateFrom marksFrom table
+sixteen n = refl
+
+is-run : {n words : List ℕ} {xs : List Item} {s : State} → Loads n s → Run s words xs → IsRun n words xs
+is-run {words = words} {xs = xs} l r = (l .state, subst (λ (s : State). Run s words xs) (sym (l .back)) r)
+
+pub c-run : {n words : List ℕ} {xs : List Item} → CRun n words xs → IsRun n words xs
+c-run (C.opened n words block events n′ words′ f) =
+    let k = open-block-call n words block events 0 n′ words′ (was-state n _ (f .number)) f in
+    is-run (k .state) (R.opened (stateFrom n) words block events (k .answer) words′ (k .said) (k .number))
+c-run (C.begun {n} {words} {xs} run event time r n′ f) =
+    let i = c-run run in
+    let k = open-event-call n event time r n′ (i .0) f in
+    is-run (k .state) (R.begun (i .1) event time (k .answer) (k .said))
+c-run (C.posted {n} {words} {xs} run store c w r n′ store′ f) =
+    let i = c-run run in
+    let k = post-call n store c w r n′ store′ (i .0) f in
+    is-run (k .state) (R.posted (i .1) store c w (k .answer) store′ (k .said))
+c-run (C.closed {n} {words} {xs} run store n′ words′ f) =
+    let i = c-run run in
+    let k = close-call n store words 0 n′ words′ (i .0) f in
+    is-run (k .state) (R.closed (i .1) store (k .answer) words′ (k .said) (k .number))
+c-run (C.not-closed {n} {words} {xs} run store r n′ words′ f ne) =
+    let i = c-run run in
+    let k = close-call n store words r n′ words′ (i .0) f in
+    is-run (k .state) (R.not-closed (i .1) store (k .answer) words′ (k .said) (λ z. ne (sym (k .number) ∙ z)))
+c-run (C.not-opened {n} {words} {xs} run block events r n′ words′ f ne) =
+    let i = c-run run in
+    let k = open-block-call n words block events r n′ words′ (i .0) f in
+    is-run (k .state) (R.not-opened (i .1) block events (k .answer) words′ (k .said) (λ z. ne (sym (k .number) ∙ z)))
+c-run (C.not-finished {n} {words} {xs} run r n′ words′ f l) =
+    let i = c-run run in
+    let k = finish-call n words r n′ words′ (i .0) f in
+    is-run (k .state) (R.not-finished (i .1) (k .answer) words′ (k .said) (λ z. over n words r n′ words′ f l (on-state n _ (i .0) ∙ (sym (k .said .refusal) ∙ z))))
+
+-- ---- the round trip
+
+-- an accepted finish behind a run of C calls: the library's run, and its finish with that length
+record Ended (n words : List ℕ) (xs : List Item) (r : ℕ) (words′ : List ℕ) : Type 0 where
+  run : Run (stateFrom n) words xs
+  answer : Finished
+  said : FinishSays (stateFrom n) words answer words′
+  accepted : numberOf (answer .refusal) ≡ 0
+  length : answer .length ≡ r
+
+ended : {n words : List ℕ} {xs : List Item} → CRun n words xs → (r : ℕ) (n′ words′ : List ℕ) → FinishFace n words r n′ words′ → r < 2 ^ 32 → Ended n words xs r words′
+ended {n} {words} {xs} run r n′ words′ f l =
+    let i = c-run run in
+    let k = finish-call n words r n′ words′ (i .0) f in
+    let z : numberOf (k .answer .refusal) ≡ 0 = k .said .refusal ∙ (sym (on-state n _ (i .0)) ∙ below n words r n′ words′ f l) in
+    record { run = i .1; answer = k .answer; said = k .said; accepted = z; length = sym (done (k .answer .length) _ z) ∙ k .number }
+
+-- the words are those of the records, and the reader gives them back
+pub c-run-reads-back : {n words : List ℕ} {xs : List Item} → CRun n words xs → (r : ℕ) (n′ words′ : List ℕ) → FinishFace n words r n′ words′ → r < 2 ^ 32
+    → ReadBack (xs ++ endItems (stateFrom n .settings) (stateFrom n .words)) r words′
+c-run-reads-back {n} {words} {xs} run r n′ words′ f l =
+    let k = ended run r n′ words′ f l in
+    subst (λ (i : ℕ). ReadBack (xs ++ endItems (stateFrom n .settings) (stateFrom n .words)) i words′) (k .length) (run-reads-back (k .run) (k .answer) words′ (k .said) (k .accepted))
+
+-- so does `next`, record by record
+pub c-run-next : {n words : List ℕ} {xs : List Item} → CRun n words xs → (r : ℕ) (n′ words′ : List ℕ) → FinishFace n words r n′ words′ → r < 2 ^ 32
+    → Reads (take r words′) startOf (xs ++ endItems (stateFrom n .settings) (stateFrom n .words)) r
+c-run-next {n} {words} {xs} run r n′ words′ f l =
+    let k = ended run r n′ words′ f l in
+    subst (λ (i : ℕ). Reads (take i words′) startOf (xs ++ endItems (stateFrom n .settings) (stateFrom n .words)) i) (k .length) (run-next (k .run) (k .answer) words′ (k .said) (k .accepted))
+
+-- and the C check of its bytes answers the number that the finish answered
+pub c-run-checked : {n words : List ℕ} {xs : List Item} → CRun n words xs → (r : ℕ) (n′ words′ : List ℕ) → FinishFace n words r n′ words′ → r < 2 ^ 32 → AllWords words′
+    → checkNumber (bytesOfWords (take r words′)) ≡ r
+c-run-checked run r n′ words′ f l w =
+    let k = ended run r n′ words′ f l in
+    subst (λ (i : ℕ). checkNumber (bytesOfWords (take i words′)) ≡ i) (k .length) (run-checked (k .run) (k .answer) words′ (k .said) (k .accepted) w)
+
+-- ---- one event
+
+abbrev bench : List ℕ → List ℕ → Bench
+bench n store = record { state = stateFrom n; store = store }
+
+c-posts : {n store m rows : List ℕ} {l : List Post} {ns : List (Post × ℕ)} → isState n ≡ true → CPostRun n store l ns m rows
+    → (isState m ≡ true) × PostRun (bench n store) l ns (bench m rows)
+c-posts e C.none = (e, P.none)
+c-posts e (C.one {n} {store} {m} {rows} p {l} {ns} r n′ store′ f rest) =
+    let k = post-call n store (p .channel) (p .window) r n′ store′ e f in
+    let i = c-posts (k .state .state) rest in
+    let more : PostRun (record { state = k .answer .state; store = store′ }) l ns (bench m rows) =
+    subst (λ (s : State). PostRun (record { state = s; store = store′ }) l ns (bench m rows)) (k .state .back) (i .1) in
+    (i .0, subst (λ (j : ℕ). PostRun (bench n store) (p ∷ l) ((p, j) ∷ ns) (bench m rows)) (k .number) (P.one p (k .answer) store′ (k .said) more))
+
+-- "Each post is accepted, or refused with the same number, alike in every order, and the state and store at the end are the same", number by number
+pub c-order : {n store m rows m′ rows′ : List ℕ} {l l′ : List Post} {ns ks : List (Post × ℕ)} → isState n ≡ true → Apart l → Perm l l′
+    → CPostRun n store l ns m rows → CPostRun n store l′ ks m′ rows′ → Perm ns ks × ((m ≡ m′) × (rows ≡ rows′))
+c-order {m = m} {m′ = m′} e a r x y =
+    let i = c-posts e x in
+    let j = c-posts e y in
+    let o = order a r (i .1) (j .1) in
+    (o .0, (sym (numbers-back m (i .0)) ∙ (ap (λ (b : Bench). numbersOf (b .state)) (o .1) ∙ numbers-back m′ (j .0)), ap (λ (b : Bench). b .store) (o .1)))
+
+-- an event by C calls is one by the calls
+opening : (e : CEventRun) → Call (λ a. OpenEventSays (stateFrom (e .before)) (e .number) (e .time) a) 0 (e .start)
+opening e = open-event-call (e .before) (e .number) (e .time) 0 (e .start) (was-state (e .before) _ (e .opened .number)) (e .opened)
+
+between : (e : CEventRun) → (isState (e .end) ≡ true) × PostRun (bench (e .start) (e .store)) (e .posts) (e .answers) (bench (e .end) (e .store′))
+between e = c-posts (opening e .state .state) (e .posted)
+
+closing : (e : CEventRun) → Call (λ a. CloseSays (stateFrom (e .end)) (e .store′) (e .words) a (e .words′)) 0 (e .after)
+closing e = close-call (e .end) (e .store′) (e .words) 0 (e .after) (e .words′) (between e .0) (e .closed)
+
+abbrev eventOf : CEventRun → EventRun
+eventOf e =
+    let k = opening e in
+    record {
+      start = bench (e .start) (e .store);
+      opened =
+          record { before = stateFrom (e .before); number = e .number; time = e .time; answer = k .answer; says = k .said; accepted = k .number; sixteen = sixteen (e .before); gave = k .state .back };
+      posts = e .posts;
+      apart = e .apart;
+      answers = e .answers;
+      end = bench (e .end) (e .store′);
+      posted = between e .1;
+      words = e .words;
+      answer = closing e .answer;
+      words′ = e .words′;
+      says = closing e .said;
+      accepted = closing e .number;
+    }
+
+-- with the same words
+same-words : (e : CEventRun) (c : ℕ) → cWordsFor e c ≡ wordsFor (eventOf e) c
+same-words e c =
+    let at : ℕ = stateFrom (e .end) .words in
+    ap (λ (s : State). ofChannel c false (take (s .words - at) (drop at (e .words′)))) (closing e .state .back)
+
+pub c-own-words : (e : CEventRun) (c : ℕ) (w : List ℕ) → windowOf (e .answers) c ≡ w ∷ []
+    → cWordsFor e c ≡ channelWords (commonOf (settingsOf e)) (getD (settingsOf e .thresholds) c 0) c w
+c-own-words e c w k = same-words e c ∙ own-words (eventOf e) c w k
+
+pub c-no-window : (e : CEventRun) (c : ℕ) → windowOf (e .answers) c ≡ [] → cWordsFor e c ≡ []
+c-no-window e c k = same-words e c ∙ no-window (eventOf e) c k
+
+pub c-own-alone : (e f : CEventRun) (c : ℕ)
+    → commonOf (settingsOf e) ≡ commonOf (settingsOf f)
+    → getD (settingsOf e .thresholds) c 0 ≡ getD (settingsOf f .thresholds) c 0
+    → windowOf (e .answers) c ≡ windowOf (f .answers) c
+    → cWordsFor e c ≡ cWordsFor f c
+c-own-alone e f c s t k = same-words e c ∙ (own-alone (eventOf e) (eventOf f) c s t k ∙ sym (same-words f c))

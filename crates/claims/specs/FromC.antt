@@ -1,0 +1,107 @@
+-- Demands 1 to 3 from C, what is said: runs of the C calls, over the numbers that the host lends; and when a C call is the library's. Assumes nothing.
+use Prim.Native.Nat.{ℕ, _-_, _^_, _≤_}
+use mathlib.Core.Path.{_≡_}
+use mathlib.Core.Bool.{true, false}
+use mathlib.Core.List.{List, [], _∷_, _++_}
+use lib.ListN.{take, drop}
+use Rattle.ground.specs.Splice.{splice}
+use Rattle.settings.specs.declared.Settings.{Settings}
+use Rattle.settings.specs.Refusal.{numberOf}
+use Rattle.finder.specs.declared.Answer as A
+use Rattle.finder.specs.Call.{FindSays}
+use Rattle.items.specs.declared.Item.{Item}
+use Rattle.writer.specs.declared.Answer.{Answer}
+use Rattle.writer.specs.declared.Finished.{Finished}
+use Rattle.writer.specs.Calls.{ifAccepted, blockItems, closingItems, SetUpSays, FinishSays}
+use Rattle.host.specs.Face.{isState, settingsFrom, stateFrom, inHigh, foundNumbers, OpenBlockFace, OpenEventFace, PostFace, CloseFace, FinishFace}
+use Rattle.host.specs.BackLaws.{Loads}
+use Rattle.claims.specs.Run.{Run}
+use Rattle.claims.specs.Order.{Post, Apart}
+use Rattle.claims.specs.Own.{ofChannel}
+
+-- ---- one call
+
+-- a C call is the library's: one of its answers, with the number that C gets, and the numbers left are a state and load as the answer's
+pub record Call (says : Answer → Type 0) (r : ℕ) (n′ : List ℕ) : Type 0 where
+  pub answer : Answer
+  pub said : says answer
+  pub number : numberOf (answer .refusal) ≡ r
+  pub state : Loads n′ (answer .state)
+
+-- the same of a set up, which gives no state where it refuses
+pub record SetUpCall (settings : List ℕ) (r : ℕ) (n′ : List ℕ) : Type 0 where
+  pub answer : Answer
+  pub said : SetUpSays (settingsFrom settings) answer
+  pub number : numberOf (answer .refusal) ≡ r
+  pub state : r ≡ 0 → Loads n′ (answer .state)
+
+-- and of a finish, which answers "refusal * 2^32, or the block's length in words"
+pub record FinishCall (n words : List ℕ) (r : ℕ) (n′ words′ : List ℕ) : Type 0 where
+  pub answer : Finished
+  pub said : FinishSays (stateFrom n) words answer words′
+  pub number : inHigh (numberOf (answer .refusal)) (answer .length) ≡ r
+  pub state : Loads n′ (answer .state)
+
+-- and of the finder: the numbers of the pulses that it answers
+pub record FindCall (settings : List ℕ) (c : ℕ) (w out : List ℕ) (r : ℕ) (out′ : List ℕ) : Type 0 where
+  pub answer : A.Answer
+  pub said : FindSays (settingsFrom settings) c w answer
+  pub number : numberOf (answer .refusal) ≡ r
+  pub found : out′ ≡ ifAccepted r (splice out 0 (foundNumbers (answer .found))) out
+
+-- ---- a run of C calls
+
+-- since a block was opened, as `Run` of the library's: every call on the numbers that the last one left and with the same buffer, any store at each,
+-- refused calls between. Beside it stand the records written so far
+pub data CRun : List ℕ → List ℕ → List Item → Type 0 where
+  opened : (n words : List ℕ) (block events : ℕ) (n′ words′ : List ℕ) → OpenBlockFace n words block events 0 n′ words′
+      → CRun n′ words′ (blockItems (stateFrom n .settings) block events)
+  begun : {n words : List ℕ} {xs : List Item} → CRun n words xs → (event time r : ℕ) (n′ : List ℕ) → OpenEventFace n event time r n′ → CRun n′ words xs
+  posted : {n words : List ℕ} {xs : List Item} → CRun n words xs → (store : List ℕ) (c : ℕ) (w : List ℕ) (r : ℕ) (n′ store′ : List ℕ) → PostFace n store c w r n′ store′
+      → CRun n′ words xs
+  closed : {n words : List ℕ} {xs : List Item} → CRun n words xs → (store n′ words′ : List ℕ) → CloseFace n store words 0 n′ words′
+      → CRun n′ words′ (xs ++ closingItems (stateFrom n) store)
+  not-closed : {n words : List ℕ} {xs : List Item} → CRun n words xs → (store : List ℕ) (r : ℕ) (n′ words′ : List ℕ) → CloseFace n store words r n′ words′
+      → (r ≡ 0 → ⊥) → CRun n′ words′ xs
+  not-opened : {n words : List ℕ} {xs : List Item} → CRun n words xs → (block events r : ℕ) (n′ words′ : List ℕ) → OpenBlockFace n words block events r n′ words′
+      → (r ≡ 0 → ⊥) → CRun n′ words′ xs
+  not-finished : {n words : List ℕ} {xs : List Item} → CRun n words xs → (r : ℕ) (n′ words′ : List ℕ) → FinishFace n words r n′ words′
+      → 2 ^ 32 ≤ r → CRun n′ words′ xs
+
+-- which is a run of the library's: the numbers are a state, and the library's calls led to it, with the same words and records
+abbrev pub IsRun : List ℕ → List ℕ → List Item → Type 0
+IsRun n words xs = (isState n ≡ true) × Run (stateFrom n) words xs
+
+-- ---- one event from C
+
+-- posts one after the other, from the numbers and the store that the last one left; each with the number that C gets
+pub data CPostRun : (n store : List ℕ) → List Post → List (Post × ℕ) → (n′ store′ : List ℕ) → Type 0 where
+  none : {n store : List ℕ} → CPostRun n store [] [] n store
+  one : {n store m rows : List ℕ} (p : Post) {l : List Post} {ns : List (Post × ℕ)} (r : ℕ) (n′ store′ : List ℕ)
+      → PostFace n store (p .channel) (p .window) r n′ store′ → CPostRun n′ store′ l ns m rows → CPostRun n store (p ∷ l) ((p, r) ∷ ns) m rows
+
+-- as `EventRun`: an accepted opening, a store lent, posts for different channels, an accepted close
+pub record CEventRun : Type 0 where
+  pub before : List ℕ
+  pub number : ℕ
+  pub time : ℕ
+  pub start : List ℕ
+  pub opened : OpenEventFace before number time 0 start
+  pub store : List ℕ
+  pub posts : List Post
+  pub apart : Apart posts
+  pub answers : List (Post × ℕ)
+  pub end : List ℕ
+  pub store′ : List ℕ
+  pub posted : CPostRun start store posts answers end store′
+  pub words : List ℕ
+  pub after : List ℕ
+  pub words′ : List ℕ
+  pub closed : CloseFace end store′ words 0 after words′
+
+abbrev pub settingsOf : CEventRun → Settings
+settingsOf e = stateFrom (e .start) .settings
+
+-- channel c's words of the event
+abbrev pub cWordsFor : CEventRun → ℕ → List ℕ
+cWordsFor e c = ofChannel c false (take (stateFrom (e .after) .words - stateFrom (e .end) .words) (drop (stateFrom (e .end) .words) (e .words′)))

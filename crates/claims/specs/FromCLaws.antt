@@ -1,0 +1,295 @@
+-- One C call: refused exactly when its table says, and nothing altered then; on the numbers of a state it is the library's call. Assumes nothing.
+use Prim.Native.Nat.{ℕ, zero, suc, _+_, _*_, _/_, _^_, _≤_, _<_}
+use mathlib.Core.Path.{_≡_, refl, sym, ap, ap₂, _∙_, subst}
+use mathlib.Core.Bool.{Bool, true, false, not, cond, _&&_}
+use mathlib.Core.List.{List, [], _∷_, _++_}
+use native.Mathlib.Omega.{arith}
+use borrow.Author.Tests.{leb-true, ltb-true, le-ltb, eq-eqb, ne-eqb}
+use lib.Dec.{eqb, leb, ltb}
+use lib.ListN.{length, getD}
+use Rattle.ground.specs.Tests.{firstOf, this-row}
+use Rattle.ground.specs.TestsLaws.{and-left, and-right, numbered}
+use Rattle.settings.specs.declared.Refusal.{Refusal}
+use Rattle.settings.specs.declared.Refusal.the-variants as F
+use Rattle.settings.specs.Ranges.{settingsOk}
+use Rattle.settings.specs.Refusal.{numberOf}
+use Rattle.finder.specs.Find.{packed}
+use Rattle.finder.specs.Call.{findTable, findNumber, foundPulses}
+use Rattle.writer.specs.declared.State.{State}
+use Rattle.writer.specs.declared.Answer.{Answer}
+use Rattle.writer.specs.State.{idle, blank, withEvent}
+use Rattle.writer.specs.Calls.{ifAccepted, setUpNumber, openBlockTable, openBlockNumber, OpenBlockSays, openEventTable, openEventNumber, OpenEventSays, postTable, postNumber, PostSays, closeTable, closeNumber, CloseSays, endItems, finishTable, finishNumber}
+use Rattle.writer.specs.CallsLaws.{done, refused}
+use Rattle.host.specs.Face.{isSettings, isState, settingsFrom, stateFrom, numbersOf, onState, onSettings, orElse, blockOpened, posted, eventClosed, finishOn, inHigh, SetUpFace, OpenBlockFace, OpenEventFace, PostFace, CloseFace, FinishFace, FindFace}
+use Rattle.host.specs.BackLaws.{Loads, numbers-back, set-up-loads, open-block-loads, open-event-loads, post-loads, close-loads, finish-loads, finish-below}
+use Rattle.claims.specs.Tables.{Exactly, exactly}
+use Rattle.claims.specs.OrderLaws.{zero-or}
+use Rattle.claims.specs.FromC.{Call, SetUpCall, FinishCall, FindCall}
+
+-- ---- "exactly when the table says"
+
+-- numbers that are no state: 10, before the call's own rows
+ten : (n : List ℕ) (rows : List (ℕ × Bool)) → onState n (firstOf rows) ≡ firstOf ((10, not (isState n)) ∷ rows)
+unfolding firstOf
+ten n rows = go (isState n)
+  where
+    go : (b : Bool) → cond b (firstOf rows) 10 ≡ cond (not b) 10 (firstOf rows)
+    go true = refl
+    go false = refl
+
+pub c-open-block-exactly : (n words : List ℕ) (block events r : ℕ) (n′ words′ : List ℕ) → OpenBlockFace n words block events r n′ words′
+    → Exactly ((10, not (isState n)) ∷ openBlockTable (stateFrom n) (length words) block events) r
+unfolding openBlockNumber
+c-open-block-exactly n words block events r n′ words′ f = exactly _ (f .number ∙ ten n _)
+
+pub c-open-event-exactly : (n : List ℕ) (event time r : ℕ) (n′ : List ℕ) → OpenEventFace n event time r n′
+    → Exactly ((10, not (isState n)) ∷ openEventTable (stateFrom n) event time) r
+unfolding openEventNumber
+c-open-event-exactly n event time r n′ f = exactly _ (f .number ∙ ten n _)
+
+pub c-post-exactly : (n store : List ℕ) (c : ℕ) (w : List ℕ) (r : ℕ) (n′ store′ : List ℕ) → PostFace n store c w r n′ store′
+    → Exactly ((10, not (isState n)) ∷ postTable (stateFrom n) (length store) c w) r
+unfolding postNumber
+c-post-exactly n store c w r n′ store′ f = exactly _ (f .number ∙ ten n _)
+
+pub c-close-exactly : (n store words : List ℕ) (r : ℕ) (n′ words′ : List ℕ) → CloseFace n store words r n′ words′
+    → Exactly ((10, not (isState n)) ∷ closeTable (stateFrom n) store (length words)) r
+unfolding closeNumber
+c-close-exactly n store words r n′ words′ f = exactly _ (f .number ∙ ten n _)
+
+-- the refusal of a finish stands above 2^32, where no length reaches
+high : (k size : ℕ) → (k ≡ 0 → size < 2 ^ 32) → inHigh k size / 2 ^ 32 ≡ k
+high k size h =
+    zero-or k (λ z. let l : size < 4294967296 = h z in ap (λ (i : ℕ). i / 4294967296) (done size _ z) ∙ omega arith)
+    (λ ne. ap (λ (i : ℕ). i / 4294967296) (refused k size (k * 4294967296) ne) ∙ omega arith)
+
+pub c-finish-exactly : (n words : List ℕ) (r : ℕ) (n′ words′ : List ℕ) → FinishFace n words r n′ words′
+    → Exactly ((10, not (isState n)) ∷ finishTable (stateFrom n) (length words)) (r / 2 ^ 32)
+unfolding finishNumber
+c-finish-exactly n words r n′ words′ f =
+    exactly _ (ap (λ (k : ℕ). k / 2 ^ 32) (f .number) ∙ (high (finishOn n (length words)) _ (finish-below n (length words)) ∙ ten n _))
+
+-- rows, and behind them others
+first-append : (rows more : List (ℕ × Bool)) → numbered rows ≡ true → orElse (firstOf rows) (firstOf more) ≡ firstOf (rows ++ more)
+unfolding firstOf
+first-append [] more h = refl
+first-append (x ∷ rows) more h = go (x .1) (first-append rows more (and-right (ltb 0 (x .0)) _ h))
+  where
+    go : (b : Bool) → orElse (firstOf rows) (firstOf more) ≡ firstOf (rows ++ more) → orElse (cond b (x .0) (firstOf rows)) (firstOf more) ≡ cond b (x .0) (firstOf (rows ++ more))
+    go true e = let k : 0 < x .0 = ltb-true 0 (x .0) (and-left _ (numbered rows) h) in rw (ne-eqb (x .0) 0 (λ z. omega arith))
+    go false e = e
+
+-- numbers that are no settings: 1, before them
+setting : (m : List ℕ) (rows more : List (ℕ × Bool)) → numbered rows ≡ true
+    → orElse (onSettings m (firstOf rows)) (firstOf more) ≡ firstOf ((1, not (isSettings m)) ∷ (rows ++ more))
+unfolding firstOf
+setting m rows more h = go (isSettings m)
+  where
+    go : (b : Bool) → orElse (cond b (firstOf rows) 1) (firstOf more) ≡ cond (not b) 1 (firstOf (rows ++ more))
+    go true = first-append rows more h
+    go false = refl
+
+pub c-set-up-exactly : (m n : List ℕ) (r : ℕ) (n′ : List ℕ) → SetUpFace m n r n′
+    → Exactly ((1, not (isSettings m)) ∷ (1, not (settingsOk (settingsFrom m))) ∷ (10, not (eqb (length n) 34)) ∷ []) r
+unfolding setUpNumber firstOf
+c-set-up-exactly m n r n′ f =
+    exactly _ (f .number ∙ (ap (orElse (onSettings m (setUpNumber (settingsFrom m)))) (go (eqb (length n) 34))
+    ∙ setting m ((1, not (settingsOk (settingsFrom m))) ∷ []) ((10, not (eqb (length n) 34)) ∷ []) refl))
+  where
+    go : (b : Bool) → cond {A = ℕ} b 0 10 ≡ cond (not b) 10 0
+    go true = refl
+    go false = refl
+
+pub c-find-exactly : (m : List ℕ) (c : ℕ) (w out : List ℕ) (r : ℕ) (out′ : List ℕ) → FindFace m c w out r out′
+    → Exactly ((1, not (isSettings m)) ∷ (findTable (settingsFrom m) c w ++ ((9, ltb (length out) 28) ∷ []))) r
+unfolding findNumber findTable firstOf
+c-find-exactly m c w out r out′ f = exactly _ (f .number ∙ setting m (findTable (settingsFrom m) c w) ((9, ltb (length out) 28) ∷ []) refl)
+
+-- "10" for numbers that are no state
+pub no-state : (n : List ℕ) (rows : List (ℕ × Bool)) (r : ℕ) → isState n ≡ false → Exactly ((10, not (isState n)) ∷ rows) r → r ≡ 10
+no-state n rows r e x = x .always 10 (this-row (10, not (isState n)) rows (ap not e))
+
+-- ---- "returns the state it was handed and alters no sample or word"
+
+pub c-set-up-refused : (m n : List ℕ) (r : ℕ) (n′ : List ℕ) → SetUpFace m n r n′ → (r ≡ 0 → ⊥) → n′ ≡ n
+c-set-up-refused m n r n′ f ne = f .numbers ∙ refused r _ _ ne
+
+pub c-open-block-refused : (n words : List ℕ) (block events r : ℕ) (n′ words′ : List ℕ) → OpenBlockFace n words block events r n′ words′ → (r ≡ 0 → ⊥)
+    → (n′ ≡ n) × (words′ ≡ words)
+c-open-block-refused n words block events r n′ words′ f ne = (f .numbers ∙ refused r _ _ ne, f .buffer ∙ refused r _ _ ne)
+
+pub c-open-event-refused : (n : List ℕ) (event time r : ℕ) (n′ : List ℕ) → OpenEventFace n event time r n′ → (r ≡ 0 → ⊥) → n′ ≡ n
+c-open-event-refused n event time r n′ f ne = f .numbers ∙ refused r _ _ ne
+
+pub c-post-refused : (n store : List ℕ) (c : ℕ) (w : List ℕ) (r : ℕ) (n′ store′ : List ℕ) → PostFace n store c w r n′ store′ → (r ≡ 0 → ⊥)
+    → (n′ ≡ n) × (store′ ≡ store)
+c-post-refused n store c w r n′ store′ f ne = (f .numbers ∙ refused r _ _ ne, f .rows ∙ refused r _ _ ne)
+
+pub c-close-refused : (n store words : List ℕ) (r : ℕ) (n′ words′ : List ℕ) → CloseFace n store words r n′ words′ → (r ≡ 0 → ⊥) → (n′ ≡ n) × (words′ ≡ words)
+c-close-refused n store words r n′ words′ f ne = (f .numbers ∙ refused r _ _ ne, f .buffer ∙ refused r _ _ ne)
+
+-- a finish is refused where its answer is 2^32 or more, and nowhere else
+pub over : (n words : List ℕ) (r : ℕ) (n′ words′ : List ℕ) → FinishFace n words r n′ words′ → 2 ^ 32 ≤ r → finishOn n (length words) ≡ 0 → ⊥
+over n words r n′ words′ f l z =
+    let b = finish-below n (length words) z in
+    let e = f .number ∙ done _ _ z in
+    omega arith
+
+pub below : (n words : List ℕ) (r : ℕ) (n′ words′ : List ℕ) → FinishFace n words r n′ words′ → r < 2 ^ 32 → finishOn n (length words) ≡ 0
+below n words r n′ words′ f l =
+    let k : ℕ = finishOn n (length words) in
+    zero-or k (λ z. z) (λ ne. let e : r ≡ k * 2 ^ 32 = f .number ∙ refused k _ _ ne in absurd (omega arith))
+
+pub c-finish-refused : (n words : List ℕ) (r : ℕ) (n′ words′ : List ℕ) → FinishFace n words r n′ words′ → 2 ^ 32 ≤ r → (n′ ≡ n) × (words′ ≡ words)
+c-finish-refused n words r n′ words′ f l = let ne = over n words r n′ words′ f l in (f .numbers ∙ refused _ _ _ ne, f .buffer ∙ refused _ _ _ ne)
+
+pub c-find-refused : (m : List ℕ) (c : ℕ) (w out : List ℕ) (r : ℕ) (out′ : List ℕ) → FindFace m c w out r out′ → (r ≡ 0 → ⊥) → out′ ≡ out
+c-find-refused m c w out r out′ f ne = f .numbers ∙ refused r _ _ ne
+
+-- ---- a C call on a state is the library's call
+
+-- the refusals in the order of their numbers
+abbrev refusals : List Refusal
+refusals = F.None ∷ F.Setting ∷ F.Store ∷ F.Sample ∷ F.Channel ∷ F.Length ∷ F.Posted ∷ F.Turn ∷ F.Number ∷ F.Room ∷ F.State ∷ []
+
+abbrev From : ℕ → List Refusal → Type 0
+From i [] = Unit {0}
+From i (r ∷ rs) = (numberOf r ≡ i) × From (suc i) rs
+
+place : (i : ℕ) (rs : List Refusal) (k : ℕ) → From i rs → k < length rs → numberOf (getD rs k F.None) ≡ i + k
+place i [] k f h = absurd (omega arith)
+place i (r ∷ rs) zero f h = f .0 ∙ omega arith
+place i (r ∷ rs) (suc k) f h = place (suc i) rs k (f .1) (omega arith) ∙ omega arith
+
+-- no row's number is over 10
+abbrev tens : List (ℕ × Bool) → Bool
+tens [] = true
+tens (r ∷ rows) = leb (r .0) 10 && tens rows
+
+first-ten : (rows : List (ℕ × Bool)) → tens rows ≡ true → firstOf rows ≤ 10
+unfolding firstOf
+first-ten [] h = omega arith
+first-ten (r ∷ rows) h = go (r .1) (first-ten rows (and-right (leb (r .0) 10) _ h))
+  where
+    go : (b : Bool) → firstOf rows ≤ 10 → cond b (r .0) (firstOf rows) ≤ 10
+    go true l = leb-true (r .0) 10 (and-left _ (tens rows) h)
+    go false l = l
+
+-- the refusal that a table gives
+abbrev refusalIn : List (ℕ × Bool) → Refusal
+refusalIn rows = getD refusals (firstOf rows) F.None
+
+number-in : (rows : List (ℕ × Bool)) → tens rows ≡ true → numberOf (refusalIn rows) ≡ firstOf rows
+number-in rows h =
+    place 0 refusals (firstOf rows) (refl, (refl, (refl, (refl, (refl, (refl, (refl, (refl, (refl, (refl, (refl, tt))))))))))) (omega (arith, first-ten rows h)) ∙ omega arith
+
+-- an accepted call's numbers load as the new state, a refused one's as the old
+either-loads : {n n′ : List ℕ} (k : ℕ) (new : State) → isState n ≡ true → (k ≡ 0 → Loads n′ new) → ((k ≡ 0 → ⊥) → n′ ≡ n) → Loads n′ (ifAccepted k new (stateFrom n))
+either-loads {n} {n′} k new e f g =
+    zero-or k (λ z. subst (Loads n′) (sym (done new (stateFrom n) z)) (f z))
+    (λ ne. subst (λ (m : List ℕ). Loads m (ifAccepted k new (stateFrom n))) (sym (g ne)) (record { state = e; back = sym (refused k new (stateFrom n) ne) }))
+
+lent : {A : Type 0} {x : A} {i k : ℕ} (new old : A) → i ≡ k → x ≡ ifAccepted i new old → x ≡ ifAccepted k new old
+lent new old e h = h ∙ ap (λ (j : ℕ). ifAccepted j new old) e
+
+-- one law for four calls: the call's table, the state that it gives, and what its contract says
+made : (n : List ℕ) (rows : List (ℕ × Bool)) (new : State) {says : Answer → Type 0} {r : ℕ} {n′ : List ℕ} → isState n ≡ true → tens rows ≡ true
+    → r ≡ onState n (firstOf rows) → n′ ≡ ifAccepted r (numbersOf new) n → (0 ≡ r → Loads n′ new)
+    → (numberOf (refusalIn rows) ≡ firstOf rows → r ≡ firstOf rows → says (record { refusal = refusalIn rows; state = ifAccepted (firstOf rows) new (stateFrom n) }))
+    → Call says r n′
+made n rows new {r = r} e ok h p f g =
+    let same : r ≡ firstOf rows = h ∙ ap (λ (b : Bool). cond b (firstOf rows) 10) e in
+    record {
+      answer = record { refusal = refusalIn rows; state = ifAccepted (firstOf rows) new (stateFrom n) };
+      said = g (number-in rows ok) same;
+      number = number-in rows ok ∙ sym same;
+      state = either-loads (firstOf rows) new e (λ z. f (sym (same ∙ z))) (λ ne. p ∙ refused r _ _ (λ z. ne (sym same ∙ z)));
+    }
+
+-- so the numbers left are those of the answer's state
+pub call-leaves : {says : Answer → Type 0} {r : ℕ} {n′ : List ℕ} (k : Call says r n′) → n′ ≡ numbersOf (k .answer .state)
+call-leaves {n′ = n′} k = sym (numbers-back n′ (k .state .state)) ∙ ap numbersOf (k .state .back)
+
+pub open-block-call : (n words : List ℕ) (block events r : ℕ) (n′ words′ : List ℕ) → isState n ≡ true → OpenBlockFace n words block events r n′ words′
+    → Call (λ a. OpenBlockSays (stateFrom n) words block events a words′) r n′
+unfolding openBlockNumber openBlockTable
+open-block-call n words block events r n′ words′ e f =
+    made n (openBlockTable (stateFrom n) (length words) block events) (blockOpened (stateFrom n) block events) e refl (f .number) (f .numbers)
+    (λ z. open-block-loads n words block events n′ words′ (subst (λ (i : ℕ). OpenBlockFace n words block events i n′ words′) (sym z) f))
+    (λ z same. record { refusal = z; state = refl; buffer = lent _ _ same (f .buffer) })
+
+pub open-event-call : (n : List ℕ) (event time r : ℕ) (n′ : List ℕ) → isState n ≡ true → OpenEventFace n event time r n′
+    → Call (λ a. OpenEventSays (stateFrom n) event time a) r n′
+unfolding openEventNumber openEventTable
+open-event-call n event time r n′ e f =
+    made n (openEventTable (stateFrom n) event time) (withEvent (stateFrom n) event time) e refl (f .number) (f .numbers)
+    (λ z. open-event-loads n event time n′ (subst (λ (i : ℕ). OpenEventFace n event time i n′) (sym z) f))
+    (λ z same. record { refusal = z; state = refl })
+
+pub post-call : (n store : List ℕ) (c : ℕ) (w : List ℕ) (r : ℕ) (n′ store′ : List ℕ) → isState n ≡ true → PostFace n store c w r n′ store′
+    → Call (λ a. PostSays (stateFrom n) store c w a store′) r n′
+unfolding postNumber postTable
+post-call n store c w r n′ store′ e f =
+    made n (postTable (stateFrom n) (length store) c w) (posted (stateFrom n) c) e refl (f .number) (f .numbers)
+    (λ z. post-loads n store c w n′ store′ (subst (λ (i : ℕ). PostFace n store c w i n′ store′) (sym z) f))
+    (λ z same. record { refusal = z; state = refl; rows = lent _ _ same (f .rows) })
+
+pub close-call : (n store words : List ℕ) (r : ℕ) (n′ words′ : List ℕ) → isState n ≡ true → CloseFace n store words r n′ words′
+    → Call (λ a. CloseSays (stateFrom n) store words a words′) r n′
+unfolding closeNumber closeTable
+close-call n store words r n′ words′ e f =
+    made n (closeTable (stateFrom n) store (length words)) (eventClosed (stateFrom n) store) e refl (f .number) (f .numbers)
+    (λ z. close-loads n store words n′ words′ (subst (λ (i : ℕ). CloseFace n store words i n′ words′) (sym z) f))
+    (λ z same. record { refusal = z; state = refl; buffer = lent _ _ same (f .buffer) })
+
+pub finish-call : (n words : List ℕ) (r : ℕ) (n′ words′ : List ℕ) → isState n ≡ true → FinishFace n words r n′ words′ → FinishCall n words r n′ words′
+unfolding finishNumber finishTable
+finish-call n words r n′ words′ e f =
+    let rows = finishTable (stateFrom n) (length words) in
+    let k : ℕ = firstOf rows in
+    let size : ℕ = stateFrom n .words + length (endItems (stateFrom n .settings) (stateFrom n .words)) in
+    let same : finishOn n (length words) ≡ k = ap (λ (b : Bool). cond b k 10) e in
+    record {
+      answer = record { refusal = refusalIn rows; state = ifAccepted k (idle (stateFrom n .settings)) (stateFrom n); length = ifAccepted k size 0 };
+      said = record { refusal = number-in rows refl; state = refl; size = refl; buffer = lent _ _ same (f .buffer) };
+      number = ap (λ (i : ℕ). inHigh i (ifAccepted k size 0)) (number-in rows refl) ∙ (twice (eqb k 0) size (k * 2 ^ 32) ∙ sym (f .number ∙ ap (λ (i : ℕ). inHigh i size) same));
+      state =
+          either-loads k (idle (stateFrom n .settings)) e (λ z. finish-loads n words r n′ words′ f (same ∙ z)) (λ ne. f .numbers ∙ refused _ _ _ (λ z. ne (sym same ∙ z)));
+    }
+  where
+    twice : (b : Bool) (size other : ℕ) → cond b (cond b size 0) other ≡ cond b size other
+    twice true size other = refl
+    twice false size other = refl
+
+-- no later refusal
+none-later : (k : ℕ) → orElse k 0 ≡ k
+none-later k = zero-or k (λ z. done 0 k z ∙ sym z) (λ ne. refused k 0 k ne)
+
+-- a set up with the numbers of settings, into 34 numbers
+pub set-up-call : (m n : List ℕ) (r : ℕ) (n′ : List ℕ) → isSettings m ≡ true → length n ≡ 34 → SetUpFace m n r n′ → SetUpCall m r n′
+unfolding setUpNumber
+set-up-call m n r n′ e l f =
+    let rows : List (ℕ × Bool) = (1, not (settingsOk (settingsFrom m))) ∷ [] in
+    let k : ℕ = firstOf rows in
+    let same : r ≡ k =
+    f .number ∙ (ap₂ (λ (a b : Bool). orElse (cond a k 1) (cond b 0 10)) e (eq-eqb (length n) 34 l) ∙ none-later k) in
+    record {
+      answer = record { refusal = refusalIn rows; state = ifAccepted k (idle (settingsFrom m)) blank };
+      said = record { refusal = number-in rows refl; state = refl };
+      number = number-in rows refl ∙ sym same;
+      state = λ z. subst (Loads n′) (sym (done _ _ (sym same ∙ z))) (set-up-loads m n n′ (subst (λ (i : ℕ). SetUpFace m n i n′) z f));
+    }
+
+-- the finder with the numbers of settings, and room for 28
+pub find-call : (m : List ℕ) (c : ℕ) (w out : List ℕ) (r : ℕ) (out′ : List ℕ) → isSettings m ≡ true → 28 ≤ length out → FindFace m c w out r out′ → FindCall m c w out r out′
+unfolding findNumber findTable
+find-call m c w out r out′ e l f =
+    let rows = findTable (settingsFrom m) c w in
+    let k : ℕ = firstOf rows in
+    let same : r ≡ k = f .number ∙ (ap₂ (λ (a b : Bool). orElse (cond a k 1) (cond b 9 0)) e (le-ltb (length out) 28 l) ∙ none-later k) in
+    record {
+      answer = record { refusal = refusalIn rows; found = packed (foundPulses (settingsFrom m) c w) };
+      said = record { refusal = number-in rows refl; found = refl };
+      number = number-in rows refl ∙ sym same;
+      found = f .numbers;
+    }

@@ -1,0 +1,128 @@
+-- The theorems of the demands suppose of a call what its `..Says` or its equation says. Here each is tied to the code: what a caller learns of a call by the function's own `ensures`
+-- (`Learnt`, of the arguments, the answer `r` and the arguments as the call leaves them) is what those theorems suppose. Assumes nothing.
+use Prim.Native.Nat.{ℕ}
+use mathlib.Core.Path.{_≡_}
+use mathlib.Core.List.{List}
+use contract.Lifetimes.{Lfts}
+use denote.Ref.{RefT, now}
+use Rattle.settings.specs.declared.Settings.{Settings}
+use Rattle.finder.proofs as finder
+use Rattle.finder.specs.declared.Answer as F
+use Rattle.finder.specs.Call.{FindSays}
+use Rattle.writer.proofs as writer
+use Rattle.writer.specs.declared.State.{State}
+use Rattle.writer.specs.declared.Answer.{Answer}
+use Rattle.writer.specs.declared.Finished.{Finished}
+use Rattle.writer.specs.Calls.{SetUpSays, OpenBlockSays, OpenEventSays, PostSays, CloseSays, FinishSays}
+use Rattle.reader.proofs as reader
+use Rattle.reader.specs.declared.Scan.{Scan}
+use Rattle.reader.specs.declared.Step.{Step}
+use Rattle.reader.specs.declared.Judged.{Judged}
+use Rattle.reader.specs.Reader.{startOf, endNumber}
+use Rattle.reader.specs.Answers.{StepSays, JudgedSays}
+use Rattle.records.proofs as records
+use Rattle.records.specs.declared.answer.Next.{Next}
+use Rattle.records.specs.declared.answer.Pairs.{Pairs}
+use Rattle.records.specs.Next.{partOf}
+use Rattle.records.specs.Answers.{NextSays}
+use Rattle.host.proofs as host
+use Rattle.host.specs.Check.{checkNumber}
+use Rattle.host.specs.Face.{SetUpFace, OpenBlockFace, OpenEventFace, PostFace, CloseFace, FinishFace, FindFace}
+use Rattle.listing.proofs as listing
+use Rattle.listing.specs.declared.Listed.{Listed}
+use Rattle.listing.specs.Listing.{listingOf}
+use Rattle.listing.specs.Says.{Says}
+
+-- a reference to lent words, samples, bytes or numbers: `now` are those it refers to
+abbrev pub Lent : Type 0
+Lent = RefT (List ℕ)
+
+-- ---- the calls
+
+pub set-up-tied : (settings : Settings) (r : Answer)
+    → writer.set_up.Reads.Learnt tt (settings, tt) r (settings, tt) → SetUpSays settings r
+set-up-tied settings r p = p
+
+pub open-block-tied : (κs : Lfts 1) (state : State) (words words′ : Lent) (number events : ℕ) (r : Answer)
+    → writer.«open_block».Reads.Learnt κs (state, (words, (number, (events, tt)))) r (state, (words′, (number, (events, tt)))) → OpenBlockSays state (now words) number events r (now words′)
+open-block-tied κs state words words′ number events r p = p
+
+pub open-event-tied : (state : State) (number time : ℕ) (r : Answer)
+    → writer.«open_event».Reads.Learnt tt (state, (number, (time, tt))) r (state, (number, (time, tt))) → OpenEventSays state number time r
+open-event-tied state number time r p = p
+
+pub post-tied : (κs : Lfts 2) (state : State) (store store′ : Lent) (channel : ℕ) (window : Lent) (r : Answer)
+    → writer.post.Reads.Learnt κs (state, (store, (channel, (window, tt)))) r (state, (store′, (channel, (window, tt)))) → PostSays state (now store) channel (now window) r (now store′)
+post-tied κs state store store′ channel window r p = p
+
+pub close-tied : (κs : Lfts 2) (state : State) (store words words′ : Lent) (r : Answer)
+    → writer.close.Reads.Learnt κs (state, (store, (words, tt))) r (state, (store, (words′, tt))) → CloseSays state (now store) (now words) r (now words′)
+close-tied κs state store words words′ r p = p
+
+pub finish-tied : (κs : Lfts 1) (state : State) (words words′ : Lent) (r : Finished)
+    → writer.finish.Reads.Learnt κs (state, (words, tt)) r (state, (words′, tt)) → FinishSays state (now words) r (now words′)
+finish-tied κs state words words′ r p = p
+
+pub find-tied : (κs : Lfts 1) (settings : Settings) (channel : ℕ) (window : Lent) (r : F.Answer)
+    → finder.find.Reads.Learnt κs (settings, (channel, (window, tt))) r (settings, (channel, (window, tt))) → FindSays settings channel (now window) r
+find-tied κs settings channel window r p = p
+
+-- ---- the same from C
+
+pub fadc250-set-up-tied : (κs : Lfts 2) (settings state state′ : Lent) (r : ℕ)
+    → host.calls.fadc250_set_up.Reads.Learnt κs (settings, (state, tt)) r (settings, (state′, tt)) → SetUpFace (now settings) (now state) r (now state′)
+fadc250-set-up-tied κs settings state state′ r p = p
+
+pub fadc250-open-block-tied : (κs : Lfts 2) (state state′ words words′ : Lent) (number events r : ℕ)
+    → host.calls.fadc250_open_block.Reads.Learnt κs (state, (words, (number, (events, tt)))) r (state′, (words′, (number, (events, tt))))
+    → OpenBlockFace (now state) (now words) number events r (now state′) (now words′)
+fadc250-open-block-tied κs state state′ words words′ number events r p = p
+
+pub fadc250-open-event-tied : (κs : Lfts 1) (state state′ : Lent) (number time r : ℕ)
+    → host.calls.fadc250_open_event.Reads.Learnt κs (state, (number, (time, tt))) r (state′, (number, (time, tt))) → OpenEventFace (now state) number time r (now state′)
+fadc250-open-event-tied κs state state′ number time r p = p
+
+pub fadc250-post-tied : (κs : Lfts 3) (state state′ store store′ : Lent) (channel : ℕ) (window : Lent) (r : ℕ)
+    → host.calls.fadc250_post.Reads.Learnt κs (state, (store, (channel, (window, tt)))) r (state′, (store′, (channel, (window, tt))))
+    → PostFace (now state) (now store) channel (now window) r (now state′) (now store′)
+fadc250-post-tied κs state state′ store store′ channel window r p = p
+
+pub fadc250-close-tied : (κs : Lfts 3) (state state′ store words words′ : Lent) (r : ℕ)
+    → host.calls.fadc250_close.Reads.Learnt κs (state, (store, (words, tt))) r (state′, (store, (words′, tt))) → CloseFace (now state) (now store) (now words) r (now state′) (now words′)
+fadc250-close-tied κs state state′ store words words′ r p = p
+
+pub fadc250-finish-tied : (κs : Lfts 2) (state state′ words words′ : Lent) (r : ℕ)
+    → host.calls.fadc250_finish.Reads.Learnt κs (state, (words, tt)) r (state′, (words′, tt)) → FinishFace (now state) (now words) r (now state′) (now words′)
+fadc250-finish-tied κs state state′ words words′ r p = p
+
+pub fadc250-find-tied : (κs : Lfts 3) (settings : Lent) (channel : ℕ) (window out out′ : Lent) (r : ℕ)
+    → host.found.fadc250_find.Reads.Learnt κs (settings, (channel, (window, (out, tt)))) r (settings, (channel, (window, (out′, tt))))
+    → FindFace (now settings) channel (now window) (now out) r (now out′)
+fadc250-find-tied κs settings channel window out out′ r p = p
+
+pub fadc250-check-tied : (κs : Lfts 1) (bytes : Lent) (r : ℕ)
+    → host.fadc250_check.Reads.Learnt κs (bytes, tt) r (bytes, tt) → r ≡ checkNumber (now bytes)
+fadc250-check-tied κs bytes r p = p
+
+-- ---- reading
+
+pub scan-start-tied : (r : Scan) → reader.Scan.start.Reads.Learnt tt tt r tt → r ≡ startOf
+scan-start-tied r p = p
+
+pub scan-step-tied : (self : Scan) (word : ℕ) (r : Step) → reader.Scan.step.Reads.Learnt tt (self, (word, tt)) r (self, (word, tt)) → StepSays self word r
+scan-step-tied self word r p = p
+
+pub scan-judge-tied : (self : Scan) (word : ℕ) (r : Judged) → reader.Scan.judge.Reads.Learnt tt (self, (word, tt)) r (self, (word, tt)) → JudgedSays self word r
+scan-judge-tied self word r p = p
+
+pub scan-at-end-tied : (self : Scan) (r : ℕ) → reader.Scan.at_end.Reads.Learnt tt (self, tt) r (self, tt) → r ≡ endNumber self
+scan-at-end-tied self r p = p
+
+pub next-tied : (κs : Lfts 1) (words : Lent) (scan : Scan) (r : Next) → records.next.Reads.Learnt κs (words, (scan, tt)) r (words, (scan, tt)) → NextSays (now words) scan r
+next-tied κs words scan r p = p
+
+pub part-tied : (κs : Lfts 1) (words : Lent) (pairs : Pairs) (r : Lent) → records.part.Reads.Learnt κs (words, (pairs, tt)) r (words, (pairs, tt)) → now r ≡ partOf (now words) pairs
+part-tied κs words pairs r p = p
+
+pub list-tied : (κs : Lfts 2) (bytes text text′ : Lent) (r : Listed) → listing.list.Reads.Learnt κs (bytes, (text, tt)) r (bytes, (text′, tt)) → Says (listingOf (now bytes)) (now text) r (now text′)
+list-tied κs bytes text text′ r p = p

@@ -1,0 +1,64 @@
+-- Demand 2: "a block that breaks the layout is refused at its first wrong word": what is asked at a word and at the input's end, which words stand where
+-- they are, and which is the first that does not. Nothing of a run is used here. Assumes nothing.
+use Prim.Native.Nat.{ℕ, suc, _%_}
+use mathlib.Core.Path.{_≡_}
+use mathlib.Core.Bool.{Bool, false, cond}
+use mathlib.Core.List.{List, [], _∷_}
+use lib.ListN.{length, drop}
+use Rattle.ground.specs.Tests.{FirstIs}
+use Rattle.fields.specs.Bytes.{wordsOfBytes}
+use Rattle.items.specs.Items.{itemFrom}
+use Rattle.reader.specs.declared.Scan.{Scan}
+use Rattle.reader.specs.Reader.{formAt, unfinished, atLimit, isEnd, refusals, after, startOf}
+use Rattle.records.specs.declared.answer.Record.{Record}
+use Rattle.records.specs.declared.answer.Next.the-variants as N
+use Rattle.records.specs.Next.{nextAt}
+
+-- ---- what is asked
+
+-- "At each word, in this order: 14 if no trailer was read and its place is 4,194,303; 11 no word left; 12 ..; 15 ..; 13 ..; 14 .."; the words are those
+-- from the scan on, and where the block ends "before a word that is no filler" nothing is asked of that word
+abbrev pub questions : Scan → List ℕ → List (ℕ × Bool)
+questions s [] = (14, atLimit s) ∷ (11, unfinished (s .phase)) ∷ []
+questions s (w ∷ ws) = cond (isEnd (formAt s w)) [] (refusals s (formAt s w) w)
+
+-- ---- the first wrong word
+
+-- the word stands where it is: it is one of the block's, and no question is answered by a refusal
+pub record Right (s : Scan) (w : ℕ) : Type 0 where
+  pub inside : isEnd (formAt s w) ≡ false
+  pub none : FirstIs (questions s (w ∷ [])) 0
+
+-- where the reading stands behind it
+abbrev pub onto : Scan → ℕ → Scan
+onto s w = after s (itemFrom (formAt s w) w)
+
+-- from s on the first k words stand where they are, and behind them the reading stands at t
+pub data Upto : Scan → List ℕ → ℕ → Scan → Type 0 where
+  here : {s : Scan} {ws : List ℕ} → Upto s ws 0 s
+  on : {s t : Scan} {w : ℕ} {ws : List ℕ} {k : ℕ} → Right s w → Upto (onto s w) ws k t → Upto s (w ∷ ws) (suc k) t
+
+-- all words before place k stand where they are; at k, a word or the input's end, n is the first question's that refuses
+pub record WrongAt (s : Scan) (ws : List ℕ) (n k : ℕ) : Type 0 where
+  pub to : Scan
+  pub before : Upto s ws k to
+  pub first : FirstIs (questions to (drop k ws)) n
+  pub some : n ≡ 0 → ⊥
+
+-- the same by the place that the scan has at the wrong word; from a block's start on that is the number of words before it (`first-wrong`)
+pub record WrongBy (s : Scan) (ws : List ℕ) (n p : ℕ) : Type 0 where
+  pub words : ℕ
+  pub wrong : WrongAt s ws n words
+  pub place : wrong .to .place ≡ p
+
+-- ---- the calls that answer a refusal and its place
+
+-- the C check: "16 .. length no multiple of 4", "for 16 the place is 0"; else the first wrong word
+pub data CheckWrong (bytes : List ℕ) : ℕ → ℕ → Type 0 where
+  odd-length : (length bytes % 4 ≡ 0 → ⊥) → CheckWrong bytes 16 0
+  wrong-word : {n p : ℕ} → length bytes % 4 ≡ 0 → WrongAt startOf (wordsOfBytes bytes) n p → CheckWrong bytes n p
+
+-- reading on with `next`, each call from the scan that the last one answered, to a refusal
+pub data NextWrong (words : List ℕ) : Scan → ℕ → ℕ → Type 0 where
+  refused : {s : Scan} {n p : ℕ} → nextAt words s ≡ N.Refused n p → NextWrong words s n p
+  took : {s t : Scan} (r : Record) {n p : ℕ} → nextAt words s ≡ N.Took r t → NextWrong words t n p → NextWrong words s n p

@@ -1,0 +1,92 @@
+-- The reader's answers in document 01's own numbers, and what its two steps promise. "If an answer is an enum, a definition gives this
+-- paper's number and values for each of its cases." Assumes nothing.
+use Prim.Native.Nat.{ℕ, _+_}
+use mathlib.Core.Path.{_≡_}
+use mathlib.Core.Bool.{cond}
+use mathlib.Core.List.{List, [], _∷_, map}
+use lib.Dec.{eqb}
+use lib.ListN.{drop}
+use Rattle.fields.specs.Word.{Field}
+use Rattle.items.specs.Items.{rowOf, formOf, itemFrom, bitOf}
+use Rattle.items.specs.declared.Form.{Form}
+use Rattle.items.specs.declared.Form.the-variants as F
+use Rattle.items.specs.declared.Item.{Item}
+use Rattle.reader.specs.declared.Scan.{Scan}
+use Rattle.reader.specs.declared.Step.{Step}
+use Rattle.reader.specs.declared.Step.the-variants as S
+use Rattle.reader.specs.declared.Judged.{Judged}
+use Rattle.reader.specs.declared.Judged.the-variants as J
+use Rattle.reader.specs.Reader.{formAt, isEnd, refusalOf, stepAt, judgeAt}
+
+-- ---- a record's type and fields
+
+-- the row's type in the table: "0, parameters (continuation)" and "3, second (continuation)" have theirs; a pair has none, 16
+abbrev pub rowType : Form → ℕ
+rowType F.Block = 0
+rowType F.Parameters = 0
+rowType F.Trailer = 1
+rowType F.Event = 2
+rowType F.Clock = 3
+rowType F.ClockHigh = 3
+rowType F.Window = 4
+rowType F.Raw = 6
+rowType F.Pair = 16
+rowType F.Integral = 7
+rowType F.Time = 8
+rowType F.Pedestal = 10
+rowType F.Empty = 14
+rowType F.Filler = 15
+rowType F.No = 16
+rowType F.End = 16
+
+-- "fields, high to low": the row behind bit 31, and behind the type where the word has one
+abbrev pub rowFields : Item → List ℕ
+rowFields x = drop (1 + bitOf (formOf x)) (map (λ (f : Field). f .value) (rowOf x))
+
+abbrev pub itemValues : Item → List ℕ
+itemValues x = rowType (formOf x) ∷ rowFields x
+
+-- ---- the answers
+
+-- the number of the refusal, 0 where there is none
+abbrev pub stepNumber : Step → ℕ
+stepNumber (S.Went f t) = 0
+stepNumber (S.Refused n p) = n
+stepNumber S.Ended = 0
+
+-- of a word that is taken its type, of a refusal its place
+abbrev pub stepValues : Step → List ℕ
+stepValues (S.Went f t) = rowType f ∷ []
+stepValues (S.Refused n p) = p ∷ []
+stepValues S.Ended = []
+
+abbrev pub judgedNumber : Judged → ℕ
+judgedNumber (J.Took x t) = 0
+judgedNumber (J.Refused n p) = n
+judgedNumber J.Ended = 0
+
+-- of a word that is taken its type and its fields, of a refusal its place
+abbrev pub judgedValues : Judged → List ℕ
+judgedValues (J.Took x t) = itemValues x
+judgedValues (J.Refused n p) = p ∷ []
+judgedValues J.Ended = []
+
+-- ---- what is asked of a word
+
+-- the number of its refusal: 0 where the block ends before it, and where no row of the table holds
+unfoldable pub numberAt : Scan → ℕ → ℕ
+numberAt s word = cond (isEnd (formAt s word)) 0 (refusalOf s (formAt s word) word)
+
+-- those values where it is taken; "The refusal names the word's place"; nothing where the block ends before it
+unfoldable pub valuesAt : Scan → ℕ → List ℕ → List ℕ
+valuesAt s word values = cond (isEnd (formAt s word)) [] (cond (eqb (refusalOf s (formAt s word) word) 0) values (s .place ∷ []))
+
+pub record StepSays (s : Scan) (word : ℕ) (r : Step) : Type 0 where
+  pub number : stepNumber r ≡ numberAt s word
+  pub values : stepValues r ≡ valuesAt s word (rowType (formAt s word) ∷ [])
+  pub answer : r ≡ stepAt s word
+
+pub record JudgedSays (s : Scan) (word : ℕ) (r : Judged) : Type 0 where
+  pub number : judgedNumber r ≡ numberAt s word
+  pub values : judgedValues r ≡ valuesAt s word (itemValues (itemFrom (formAt s word) word))
+  pub answer : r ≡ judgeAt s word
