@@ -114,4 +114,7 @@ holds r a f w b = record { accepted = a; found = f; writes = w; inBlock = b }
 -- every row is as the bench says
 pub bench-runs : Each Holds rows
 unfolding settingsOf rows asBench findNumber findTable firstOf settingsOk ranges thresholdsOk samplesOk allLe foundPulses channelPulses pulsesFrom pulseAt integral sumOver total timeAt early overIn vmin vmid afterFall edgeTime n1 greatest atMost fineOf tcFrom firstOver nextTc firstFall least scan over starts falls ampAt amp channelItems partsOf pulsesItems pulseItems integralItem timeItem pedestalItem
-bench-runs = (holds _ refl refl refl block-a, (holds _ refl refl refl tt, (holds _ refl refl refl tt, (holds _ refl refl refl tt, (holds _ refl refl refl tt, (holds _ refl refl refl tt, (holds _ refl refl refl tt, (holds _ refl refl refl tt, (holds _ refl refl refl tt, (holds _ refl refl refl tt, (holds _ refl refl refl tt, (holds _ refl refl refl tt, (holds _ refl refl refl tt, (holds _ refl refl refl tt, (holds _ refl refl refl tt, tt)))))))))))))))
+bench-runs = (holds (at 0) refl refl refl block-a, (holds (at 1) refl refl refl tt, (holds (at 2) refl refl refl tt, (holds (at 3) refl refl refl tt, (holds (at 4) refl refl refl tt, (holds (at 5) refl refl refl tt, (holds (at 6) refl refl refl tt, (holds (at 7) refl refl refl tt, (holds (at 8) refl refl refl tt, (holds (at 9) refl refl refl tt, (holds (at 10) refl refl refl tt, (holds (at 11) refl refl refl tt, (holds (at 12) refl refl refl tt, (holds (at 13) refl refl refl tt, (holds (at 14) refl refl refl tt, tt)))))))))))))))
+  where
+    at : ℕ → BenchRun
+    at n = getD rows n runA
