@@ -38,7 +38,7 @@ pub data Upto : Scan → List ℕ → ℕ → Scan → Type 0 where
   here : {s : Scan} {ws : List ℕ} → Upto s ws 0 s
   on : {s t : Scan} {w : ℕ} {ws : List ℕ} {k : ℕ} → Right s w → Upto (onto s w) ws k t → Upto s (w ∷ ws) (suc k) t
 
--- all words before place k stand where they are; at k, a word or the input's end, n is the first question's that refuses
+-- the k words before stand where they are; then, at a word or at the input's end, n is the number of the first question that refuses
 pub record WrongAt (s : Scan) (ws : List ℕ) (n k : ℕ) : Type 0 where
   pub to : Scan
   pub before : Upto s ws k to
