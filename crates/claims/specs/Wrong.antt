@@ -2,10 +2,11 @@
 -- they are, and which is the first that does not. Nothing of a run is used here. Assumes nothing.
 use Prim.Native.Nat.{ℕ, suc, _%_}
 use mathlib.Core.Path.{_≡_}
-use mathlib.Core.Bool.{Bool, false, cond}
+use mathlib.Core.Bool.{Bool, false, not, cond, _||_}
 use mathlib.Core.List.{List, [], _∷_}
+use lib.Dec.{eqb}
 use lib.ListN.{length, drop}
-use Rattle.ground.specs.Tests.{FirstIs}
+use Rattle.ground.specs.Tests.{firstOf, FirstIs}
 use Rattle.fields.specs.Bytes.{wordsOfBytes}
 use Rattle.items.specs.Items.{itemFrom}
 use Rattle.reader.specs.declared.Scan.{Scan}
@@ -51,12 +52,23 @@ pub record WrongBy (s : Scan) (ws : List ℕ) (n p : ℕ) : Type 0 where
   pub wrong : WrongAt s ws n words
   pub place : wrong .to .place ≡ p
 
+-- where a reading stops: the scan at the first word that does not stand where it is, or at the input's end, and the words from there on
+unfoldable pub stopOf : Scan → List ℕ → Scan × List ℕ
+stopOf s [] = (s, [])
+stopOf s (w ∷ ws) = cond (not (eqb (firstOf (questions s (w ∷ ws))) 0) || isEnd (formAt s w)) (s, w ∷ ws) (stopOf (onto s w) ws)
+
 -- ---- the calls that answer a refusal and its place
 
 -- the C check: "16 .. length no multiple of 4", "for 16 the place is 0"; else the first wrong word
 pub data CheckWrong (bytes : List ℕ) : ℕ → ℕ → Type 0 where
   odd-length : (length bytes % 4 ≡ 0 → ⊥) → CheckWrong bytes 16 0
   wrong-word : {n p : ℕ} → length bytes % 4 ≡ 0 → WrongAt startOf (wordsOfBytes bytes) n p → CheckWrong bytes n p
+
+-- what it asks, in one table: "16 byte input: length no multiple of 4", then what is asked where the reading stops
+unfoldable pub checkQuestions : List ℕ → List (ℕ × Bool)
+checkQuestions bytes =
+    let t : Scan × List ℕ = stopOf startOf (wordsOfBytes bytes) in
+    (16, not (eqb (length bytes % 4) 0)) ∷ questions (t .0) (t .1)
 
 -- reading on with `next`, each call from the scan that the last one answered, to a refusal
 pub data NextWrong (words : List ℕ) : Scan → ℕ → ℕ → Type 0 where

@@ -1,8 +1,8 @@
 -- Demand 2: "a block that breaks the layout is refused at its first wrong word", both ways: for a run over words, for the C check and for `next`.
 -- Assumes nothing.
-use Prim.Native.Nat.{ℕ, suc, _+_, _-_, _*_, _%_, _^_, _<_}
+use Prim.Native.Nat.{ℕ, suc, _+_, _-_, _*_, _/_, _%_, _^_, _<_}
 use mathlib.Core.Path.{_≡_, refl, sym, ap, ap₂, _∙_, subst}
-use mathlib.Core.Bool.{Bool, true, false, cond, true≢false}
+use mathlib.Core.Bool.{Bool, true, false, not, cond, true≢false}
 use mathlib.Core.List.{List, [], _∷_}
 use mathlib.Core.Logic.{_↔_}
 use native.Mathlib.Omega.{arith}
@@ -24,7 +24,8 @@ use Rattle.records.specs.Next.{nextAt}
 use Rattle.records.specs.NextLaws.{Taken, SaysNext, next-says}
 use Rattle.host.specs.Check.{numberOfOut, checkNumber}
 use Rattle.claims.specs.FirstWrong.{placeOf, place-counts, place-small, records-before}
-use Rattle.claims.specs.Wrong.{questions, Right, onto, Upto, here, on, WrongAt, WrongBy, CheckWrong, odd-length, wrong-word, NextWrong, refused, took}
+use Rattle.claims.specs.Tables.{Exactly, exactly}
+use Rattle.claims.specs.Wrong.{questions, checkQuestions, stopOf, Right, onto, Upto, here, on, WrongAt, WrongBy, CheckWrong, odd-length, wrong-word, NextWrong, refused, took}
 
 -- ---- one word
 
@@ -160,6 +161,50 @@ check-wrong bytes n p some small = (there (eqb (length bytes % 4) 0) refl, back)
     back : {m k : ℕ} → CheckWrong bytes m k → cond (eqb (length bytes % 4) 0) (numberOfOut (checkFrom startOf ws)) (16 * 2 ^ 32) ≡ m * 2 ^ 32 + k
     back (odd-length h) = rw (ne-eqb _ 0 h)
     back (wrong-word h a) = rw (eq-eqb _ 0 h) (ap numberOfOut (sym (check-reads startOf ws) ∙ first-wrong ws _ _ .1 a))
+
+-- how a run ends, by what is asked where it stops
+stop-says : (s : Scan) (ws : List ℕ) → let t = stopOf s ws in (readFrom s ws) .out ≡ outOf (firstOf (questions (t .0) (t .1))) (t .0 .place)
+unfolding readFrom endNumber stopOf
+stop-says s [] = end-by s
+stop-says s (w ∷ ws) = go (at s w ws) (stop-says (onto s w) ws)
+  where
+    go : At s w ws → (let t = stopOf (onto s w) ws in (readFrom (onto s w) ws) .out ≡ outOf (firstOf (questions (t .0) (t .1))) (t .0 .place))
+        → let t = stopOf s (w ∷ ws) in (readFrom s (w ∷ ws)) .out ≡ outOf (firstOf (questions (t .0) (t .1))) (t .0 .place)
+    unfolding firstOf
+    go (ends h e) r = ap (λ (x : Reading). x .out) e ∙ rw h
+    go (stops n f z e) r =
+        let i : firstOf (questions s (w ∷ ws)) ≡ n = is-first f in
+        ap (λ (x : Reading). x .out) e ∙ rw (i, ne-eqb n 0 z) (rw (i, ne-eqb n 0 z))
+    go (goes k e) r =
+        let i : firstOf (questions s (w ∷ ws)) ≡ 0 = is-first (k .none) in
+        ap (λ (x : Reading). x .out) e ∙ rw (i, k .inside) r
+
+-- "16 at the C check" and 11 to 15: the refusal in its number is the first of the table's rows that holds
+pub check-refusal-exactly : (bytes : List ℕ) → Exactly (checkQuestions bytes) (checkNumber bytes / 2 ^ 32)
+unfolding checkNumber checkQuestions firstOf
+check-refusal-exactly bytes = exactly (checkQuestions bytes) (go (eqb (length bytes % 4) 0))
+  where
+    ws : List ℕ
+    ws = wordsOfBytes bytes
+
+    t : Scan × List ℕ
+    t = stopOf startOf ws
+
+    n : ℕ
+    n = firstOf (questions (t .0) (t .1))
+
+    high : (p : ℕ) → checkFrom startOf ws ≡ outOf n p → placeOf (outOf n p) < 2 ^ 32 - 1 → numberOfOut (checkFrom startOf ws) / 2 ^ 32 ≡ n
+    high p e l = ap (λ (o : Out). numberOfOut o / 2 ^ 32) e ∙ by (eqb n 0) refl l
+      where
+        by : (b : Bool) → eqb n 0 ≡ b → placeOf (cond b (Whole p) (Broken n p)) < 2 ^ 32 - 1 → numberOfOut (cond b (Whole p) (Broken n p)) / 2 ^ 32 ≡ n
+        by true h l = omega (arith, eqb-true n 0 h)
+        by false h l = omega arith
+
+    go : (b : Bool) → cond b (numberOfOut (checkFrom startOf ws)) (16 * 2 ^ 32) / 2 ^ 32 ≡ cond (not b) 16 n
+    go true =
+        let e : checkFrom startOf ws ≡ outOf n (t .0 .place) = sym (check-reads startOf ws) ∙ stop-says startOf ws in
+        high (t .0 .place) e (subst (λ (o : Out). placeOf o < 2 ^ 32 - 1) (stop-says startOf ws) (place-small ws))
+    go false = refl
 
 -- ---- record by record
 
