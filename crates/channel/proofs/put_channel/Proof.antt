@@ -19,6 +19,7 @@ use Rattle.channel.proofs.put_channel.Tie as tie
 module _ (c : tie.Else1) where
   asked : searchable (length (c .before .before .before .before .args .row .now)) (c .before .before .before .before .args .settings .nsa) (c .before .before .before .before .args .settings .limit) ≡ true
   asked = sym (c .before .can-search .ensures) ∙ not-false _ (c .if1 .left)
+
   size : length (channelItems (commonOf (c .before .before .before .before .args .settings)) (c .before .before .before .before .args .threshold) (c .before .before .before .before .args .channel) (c .before .before .before .before .args .row .now)) ≡ channelLength (commonOf (c .before .before .before .before .args .settings)) (c .before .before .before .before .args .threshold) (c .before .before .before .before .args .row .now)
   size = length-channel (commonOf (c .before .before .before .before .args .settings)) (c .before .before .before .before .args .threshold) (c .before .before .before .before .args .channel) (c .before .before .before .before .args .row .now) (searched _ _ _ asked .some)
 
