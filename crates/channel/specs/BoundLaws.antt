@@ -8,15 +8,14 @@ use native.Mathlib.Nat.{le-trans, mul-le-mul-right}
 use lib.Dec.{eqb}
 use lib.ListN.{length}
 use Rattle.settings.specs.declared.Settings.{Settings}
-use Rattle.settings.specs.Ranges.{mostSamples, settingsOk}
-use Rattle.settings.specs.RangesLaws.{settings-in-range}
+use Rattle.settings.specs.Ranges.{mostSamples}
 use Rattle.finder.specs.declared.Pulse.{Pulse}
-use Rattle.finder.specs.Find.{anyOver}
+use Rattle.finder.specs.Find.{anyOver, searchable}
+use Rattle.finder.specs.FindLaws.{searched}
 use Rattle.finder.specs.RangeLaws.{PulseFits, EachFits, pulses-fit, pulses-count}
 use Rattle.channel.specs.declared.Parts.{Parts}
-use Rattle.channel.specs.Channel.{modeTable, rowOfMode, partsOf, commonOf, pulsesOf, channelItems}
+use Rattle.channel.specs.Channel.{modeTable, rowOfMode, partsOf, commonOf, pulsesOf}
 use Rattle.channel.specs.Inner.{pairsFor, oneIf, pulseLength, pulsesLength, channelLength}
-use Rattle.channel.specs.InnerLaws.{length-channel}
 
 -- the most that a mode writes of a pulse, and of a channel with three
 pulseMost : Parts → ℕ
@@ -62,18 +61,19 @@ pulses-most m n [] h o = omega arith
 pulses-most m n (p ∷ l) h o = omega (arith, pulse-most m n p h (o .0), pulses-most m n l h (o .1))
 
 -- "a channel is at most 753 words"
-pub channel-most : (s : Settings) (t c : ℕ) (w : List ℕ) → settingsOk s ≡ true → length w ≤ mostSamples → length (channelItems (commonOf s) t c w) ≤ 753
+pub channel-most : (s : Settings) (t : ℕ) (w : List ℕ) → searchable (length w) (s .nsa) (s .limit) ≡ true → channelLength (commonOf s) t w ≤ 753
 unfolding channelLength
-channel-most s t c w ok h =
-    let r = settings-in-range s ok in
+channel-most s t w ok =
+    let r = searched _ _ _ ok in
+    let h = r .short in
     let m : Parts = partsOf (s .mode) in
     let on : Bool = m .window && anyOver w t in
     let l = pulsesOf (commonOf s) t w in
-    let few : length l * pulseMost m ≤ 3 * pulseMost m = mul-le-mul-right (pulseMost m) (le-trans (pulses-count w t (s .nsb) (s .nsa) (s .limit) 0) (r .limit .1)) in
+    let few : length l * pulseMost m ≤ 3 * pulseMost m = mul-le-mul-right (pulseMost m) (le-trans (pulses-count w t (s .nsb) (s .nsa) (s .limit) 0) (r .few)) in
     let a : cond on (1 + pairsFor (length w)) 0 ≤ cond (m .window) 251 0 = fewer (m .window) (anyOver w t) (1 + pairsFor (length w)) (omega arith) in
-    let b : pulsesLength m l ≤ length l * pulseMost m = pulses-most m (length w) l h (pulses-fit w t (s .nsb) (s .nsa) (s .limit) 0 (r .nsa .0)) in
+    let b : pulsesLength m l ≤ length l * pulseMost m = pulses-most m (length w) l h (pulses-fit w t (s .nsb) (s .nsa) (s .limit) 0 (r .some)) in
     let d : cond (m .window) 251 0 + 3 * pulseMost m ≤ 753 = whole (s .mode) in
-    rw (length-channel (commonOf s) t c w (r .nsa .0)) (omega arith)
+    omega arith
   where
     fewer : (x y : Bool) (n : ℕ) → n ≤ 251 → cond (x && y) n 0 ≤ cond x 251 0
     fewer true true n h = h

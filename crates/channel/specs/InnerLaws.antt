@@ -8,13 +8,12 @@ use native.Mathlib.Numerals.{add-one}
 use lib.ListN.{length, getD, drop, replicate, drop-of-length-le, length-append, length-take, length-drop}
 use lib.Seq.{drop-cons, getD-take, length-take-le, sets-eq}
 use Rattle.ground.specs.TestsLaws.{or-none}
-use Rattle.settings.specs.Ranges.{mostSamples, settingsOk}
-use Rattle.settings.specs.RangesLaws.{InRange, settings-in-range}
+use Rattle.settings.specs.Ranges.{mostSamples}
 use Rattle.settings.specs.declared.Settings.{Settings}
 use Rattle.finder.specs.declared.Pulse.{Pulse}
 use Rattle.finder.specs.declared.Pulses.{Pulses}
-use Rattle.finder.specs.Find.{anyOver, pulsesFrom, noPulse, packed, findAll}
-use Rattle.finder.specs.CallLaws.{find-in-range}
+use Rattle.finder.specs.Find.{anyOver, pulsesFrom, noPulse, packed, searchable, findAll}
+use Rattle.finder.specs.FindLaws.{find-all, Searched, searched, can-search}
 use Rattle.finder.specs.RangeLaws.{PulseFits, EachFits, fits-at, pulses-fit, pulses-count, packed-back}
 use Rattle.channel.specs.declared.Parts.{Parts}
 use Rattle.items.specs.declared.Item.{Item}
@@ -110,6 +109,10 @@ length-channel s t c w h =
     ∙ ap₂ (λ (a b : ℕ). a + b) (length-if on (windowItems c w) (1 + pairsFor (length w)) (length-window c w))
     (length-pulses (partsOf (s .mode)) c w 0 (pulsesOf s t w) (pulses-fit w t (s .nsb) (s .nsa) (s .limit) 0 h))
 
+-- the channel's number does not count
+pub any-channel : (s : Common) (t c d : ℕ) (w : List ℕ) → 1 ≤ s .nsa → length (channelItems s t c w) ≡ length (channelItems s t d w)
+any-channel s t c d w h = length-channel s t c w h ∙ sym (length-channel s t d w h)
+
 -- the count in turns: what is counted and what is left are the whole
 module _ (m : Parts) (found : Pulses) (stored : found .count ≤ length (found .pulses)) where
   pub count-turn : (i n r all : ℕ) (d : Pulse) → r ≡ pulseLength m (getD (found .pulses) i d) → i < found .count
@@ -148,7 +151,7 @@ unfolding pulsesLength
 length-none m [] h = refl
 length-none m (p ∷ l) h = ap₂ (λ (x y : ℕ). x + y) (pulse-none m 0 [] 0 p h .1) (length-none m l h)
 
--- ---- what the finder gives under settings in range
+-- ---- what the finder gives
 
 -- what is written of the pulses found, and its length, are those of all pulses
 pub record IsFound (s : Settings) (t : ℕ) (w : List ℕ) (m : Parts) (found : Pulses) : Type 0 where
@@ -156,29 +159,30 @@ pub record IsFound (s : Settings) (t : ℕ) (w : List ℕ) (m : Parts) (found : 
   pub items : (c : ℕ) → pulsesItems m c w 0 (listed found) ≡ pulsesItems m c w 0 (pulsesOf (commonOf s) t w)
   pub size : pulsesLength m (listed found) ≡ pulsesLength m (pulsesOf (commonOf s) t w)
 
-found-to : (s : Settings) (t : ℕ) (w : List ℕ) (n : ℕ) (found : Pulses) → InRange s → length w ≤ mostSamples → n ≤ 3 → found ≡ findAll w t (s .nsb) (s .nsa) n
+found-to : (s : Settings) (t : ℕ) (w : List ℕ) (n : ℕ) (found : Pulses) → Searched (length w) (s .nsa) n → found ≡ findAll w t (s .nsb) (s .nsa) n
     → InWindow (length w) found × (listed found ≡ pulsesFrom w t (s .nsb) (s .nsa) n 0)
-found-to s t w n found r l h e =
-    let few : length (pulsesFrom w t (s .nsb) (s .nsa) n 0) ≤ 3 = omega (arith, pulses-count w t (s .nsb) (s .nsa) n 0) in
-    rw (e, find-in-range s w t n r l h) (in-window (length w) _ (pulses-fit w t (s .nsb) (s .nsa) n 0 (r .nsa .0)) few, listed-packed _ few)
+found-to s t w n found r e =
+    let few : length (pulsesFrom w t (s .nsb) (s .nsa) n 0) ≤ 3 = omega (arith, pulses-count w t (s .nsb) (s .nsa) n 0, r .few) in
+    rw (e, find-all w t (s .nsb) (s .nsa) n (can-search _ _ _ r)) (in-window (length w) _ (pulses-fit w t (s .nsb) (s .nsa) n 0 (r .some)) few, listed-packed _ few)
 
-pub is-found : (s : Settings) (t : ℕ) (w : List ℕ) (m : Parts) (found : Pulses) → settingsOk s ≡ true → length w ≤ mostSamples
+pub is-found : (s : Settings) (t : ℕ) (w : List ℕ) (m : Parts) (found : Pulses) → searchable (length w) (s .nsa) (s .limit) ≡ true
     → found ≡ findAll w t (s .nsb) (s .nsa) (limitFor m (s .limit)) → IsFound s t w m found
-is-found s t w m found ok l e = go (ofPulses m) refl
+is-found s t w m found ok e = go (ofPulses m) refl
   where
-    r : InRange s
-    r = settings-in-range s ok
+    r : Searched (length w) (s .nsa) (s .limit)
+    r = searched _ _ _ ok
 
     to : (b : Bool) → ofPulses m ≡ b → found ≡ findAll w t (s .nsb) (s .nsa) (cond b (s .limit) 0)
     to b h = e ∙ ap (λ (x : Bool). findAll w t (s .nsb) (s .nsa) (cond x (s .limit) 0)) h
 
     go : (b : Bool) → ofPulses m ≡ b → IsFound s t w m found
     go true on =
-        let f = found-to s t w (s .limit) found r l (r .limit .1) (to true on) in
+        let f = found-to s t w (s .limit) found r (to true on) in
         record { inside = f .0; items = λ c. ap (pulsesItems m c w 0) (f .1); size = ap (pulsesLength m) (f .1) }
     go false off =
+        let none : Searched (length w) (s .nsa) 0 = record { short = r .short; some = r .some; within = r .within; few = omega arith } in
         record {
-          inside = found-to s t w 0 found r l (omega arith) (to false off) .0;
+          inside = found-to s t w 0 found none (to false off) .0;
           items = λ c. items-none m c w 0 (listed found) off ∙ sym (items-none m c w 0 (pulsesOf (commonOf s) t w) off);
           size = length-none m (listed found) off ∙ sym (length-none m (pulsesOf (commonOf s) t w) off);
         }

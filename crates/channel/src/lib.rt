@@ -10,15 +10,19 @@ use settings::Settings;
 ghost use mathlib.Core.Path.{_≡_};
 ghost use mathlib.Core.Bool.{true, cond, _&&_};
 ghost use mathlib.Core.List.{[], _∷_};
-ghost use Prim.Native.Nat.{_+_, _<_, _≤_};
+ghost use Prim.Native.Nat.{_+_, _≤_};
+ghost use lib.Dec.{ltb};
 ghost use lib.ListN.{length};
-ghost use Rattle.ground.specs.Splice.{Written};
-ghost use Rattle.settings.specs.Ranges.{mostSamples, settingsOk};
-ghost use Rattle.finder.specs.Find.{anyOver, findAll};
+ghost use Rattle.ground.specs.Splice.{Written, WrittenIf};
+ghost use Rattle.settings.specs.Ranges.{mostSamples};
+ghost use Rattle.finder.specs.Find.{anyOver, searchable, findAll};
 ghost use Rattle.finder.specs.RangeLaws.{PulseFits};
 ghost use Rattle.items.specs.Items.{wordOf, wordsOf};
 ghost use Rattle.channel.specs.Channel.{windowItems, rawItems, partsOf, itemIf, pulseItems, pulsesItems, commonOf, channelItems, channelWords};
 ghost use Rattle.channel.specs.Inner.{listed, InWindow, limitFor, channelLength};
+
+// The most words of a channel.
+const MOST_CHANNEL: usize = 753;
 
 // What a mode writes: the window, and of each pulse its samples, integral, time (high-resolution or TC) and pedestal.
 pub struct Parts {
@@ -58,21 +62,33 @@ fn parts_of(mode: u32) -> Parts
     }
 }
 
-// Every writer has this contract: its words from place `at`, all else as it was; it answers the next place.
+// Every writer has this contract: its words from place `at`, all else as it was; it answers the next place. One that is public may be lent anything:
+// what has no room is not written, and the place stays.
 pub fn put_item(words: &mut [u32], at: usize, item: Item) -> usize
-    requires { ⌜ at < length (now words) ⌝ }
-    ensures { λ r. ⌜ Written (now (words .entry)) at (wordOf item ∷ []) r (now (words .exit)) ⌝ }
+    ensures { λ r. ⌜ WrittenIf true (now (words .entry)) at (wordOf item ∷ []) r (now (words .exit)) ⌝ }
 {
-    words[at] = item.build();
-    at + 1
+    if at < words.len() {
+        words[at] = item.build();
+        return at + 1;
+    }
+    at
 }
 
 // The record where it is wanted, and nothing where it is not.
 pub fn put_if(words: &mut [u32], at: usize, on: bool, item: Item) -> usize
-    requires { ⌜ at + length (itemIf on item) ≤ length (now words) ⌝ }
-    ensures { λ r. ⌜ Written (now (words .entry)) at (wordsOf (itemIf on item)) r (now (words .exit)) ⌝ }
+    ensures { λ r. ⌜ WrittenIf true (now (words .entry)) at (wordsOf (itemIf on item)) r (now (words .exit)) ⌝ }
 {
     if on { put_item(words, at, item) } else { at }
+}
+
+// Fewer than `count` words are left behind place `at`. The difference cannot wrap, whatever the place.
+pub fn room_short(room: usize, at: usize, count: usize) -> bool
+    ensures { λ r. ⌜ r ≡ ltb room (at + count) ⌝ }
+{
+    if room < at {
+        return true;
+    }
+    room - at < count
 }
 
 // A pulse's data set where the mode writes it.
@@ -196,8 +212,8 @@ fn window_for(parts: Parts, threshold: u32, row: &[u16]) -> bool
     }
 }
 
-// The words of a channel: of the common settings, its own threshold, its number and its window.
-pub fn put_channel(
+// The words of a channel that has room: the window where it is wanted, then the pulses.
+fn put_found(
     words: &mut [u32],
     at: usize,
     settings: Settings,
@@ -205,7 +221,7 @@ pub fn put_channel(
     channel: u32,
     row: &[u16],
 ) -> usize
-    requires { ⌜ (settingsOk settings ≡ true) × (length (now row) ≤ mostSamples) ⌝ }
+    requires { ⌜ searchable (length (now row)) (settings .nsa) (settings .limit) ≡ true ⌝ }
     requires { ⌜ at + length (channelItems (commonOf settings) threshold channel (now row)) ≤ length (now words) ⌝ }
     ensures { λ r. ⌜ Written (now (words .entry)) at (channelWords (commonOf settings) threshold channel (now (row .entry))) r (now (words .exit)) ⌝ }
 {
@@ -217,12 +233,53 @@ pub fn put_channel(
 }
 
 // How many words that is.
-pub fn channel_length(settings: Settings, threshold: u32, row: &[u16]) -> usize
-    requires { ⌜ (settingsOk settings ≡ true) × (length (now row) ≤ mostSamples) ⌝ }
+fn count_found(settings: Settings, threshold: u32, row: &[u16]) -> usize
+    requires { ⌜ searchable (length (now row)) (settings .nsa) (settings .limit) ≡ true ⌝ }
     ensures { λ r. ⌜ r ≡ channelLength (commonOf settings) threshold (now (row .entry)) ⌝ }
 {
     let parts = parts_of(settings.mode);
     let wanted = window_for(parts, threshold, row);
     let found = pulses_for(parts, settings, threshold, row);
     count::window_length(wanted, row.len()) + count::pulses_length(parts, found, row.len())
+}
+
+// Fewer words are left than the channel takes. Where there is room for the longest channel, nothing is counted.
+fn channel_short(room: usize, at: usize, settings: Settings, threshold: u32, row: &[u16]) -> bool
+    requires { ⌜ searchable (length (now row)) (settings .nsa) (settings .limit) ≡ true ⌝ }
+    ensures { λ r. ⌜ r ≡ ltb room (at + channelLength (commonOf settings) threshold (now (row .entry))) ⌝ }
+{
+    if !room_short(room, at, MOST_CHANNEL) {
+        return false;
+    }
+    room_short(room, at, count_found(settings, threshold, row))
+}
+
+// The words of a channel: of the common settings, its own threshold, its number and its window.
+pub fn put_channel(
+    words: &mut [u32],
+    at: usize,
+    settings: Settings,
+    threshold: u32,
+    channel: u32,
+    row: &[u16],
+) -> usize
+    ensures { λ r. ⌜ WrittenIf (searchable (length (now (row .entry))) (settings .nsa) (settings .limit)) (now (words .entry)) at (channelWords (commonOf settings) threshold channel (now (row .entry))) r (now (words .exit)) ⌝ }
+{
+    if !finder::can_search(row.len(), settings.nsa, settings.limit) {
+        return at;
+    }
+    if channel_short(words.len(), at, settings, threshold, row) {
+        return at;
+    }
+    put_found(words, at, settings, threshold, channel, row)
+}
+
+// How many words that is, whatever the channel's number.
+pub fn channel_length(settings: Settings, threshold: u32, row: &[u16]) -> usize
+    ensures { λ r. ⌜ r ≡ cond (searchable (length (now (row .entry))) (settings .nsa) (settings .limit)) (length (channelItems (commonOf settings) threshold 0 (now (row .entry)))) 0 ⌝ }
+{
+    if finder::can_search(row.len(), settings.nsa, settings.limit) {
+        return count_found(settings, threshold, row);
+    }
+    0
 }

@@ -2,9 +2,11 @@
 use Prim.Native.Nat.{ℕ, _+_, _*_, _/_, _%_, _^_}
 use mathlib.Core.Bool.{Bool, true, not, cond, _&&_, _||_}
 use mathlib.Core.List.{List, [], _∷_, _++_}
-use lib.ListN.{getD, take, drop}
+use lib.ListN.{length, getD, take, drop}
 use lib.Dec.{leb}
+use Rattle.ground.specs.Tests.{allOf}
 use Rattle.settings.specs.declared.Settings.{Settings}
+use Rattle.settings.specs.Ranges.{settingsOk}
 use Rattle.settings.specs.Sample.{samplesOk}
 use Rattle.items.specs.declared.Item.{Item}
 use Rattle.items.specs.declared.Item.the-variants as I
@@ -13,6 +15,10 @@ use Rattle.channel.specs.Channel.{itemIf, commonOf, channelItems}
 -- "The host lends the store, 16 rows of NW samples, row c from place c x NW."
 unfoldable pub row : ℕ → ℕ → List ℕ → List ℕ
 row nw c store = take nw (drop (c * nw) store)
+
+-- what is lent is enough for an event: settings in range, a mark for each of at most sixteen channels, and those 16 rows
+unfoldable pub lentOk : Settings → List Bool → List ℕ → Bool
+lentOk s posted store = allOf (settingsOk s ∷ leb (length posted) 16 ∷ leb (16 * s .nw) (length store) ∷ [])
 
 -- no sample over 8,191 "in a posted channel's row of the store then lent", from channel c on
 unfoldable pub rowsOk : ℕ → List ℕ → ℕ → List Bool → Bool

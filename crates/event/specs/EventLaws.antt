@@ -6,25 +6,41 @@ use mathlib.Core.List.{List, [], _∷_, _++_}
 use native.Mathlib.Omega.{arith}
 use native.Mathlib.Nat.{suc-mul, mul-le-mul-right}
 use native.Mathlib.Numerals.{add-one}
+use borrow.Author.Tests.{leb-true, le-leb}
 use lib.ListN.{length, getD, take, drop, length-append, length-take, drop-of-length-le}
 use lib.Dec.{leb}
 use lib.Seq.{drop-cons}
 use Rattle.ground.specs.Splice.{Written}
 use Rattle.ground.specs.WritingLaws.{Left}
+use Rattle.ground.specs.TestsLaws.{every, all-of}
 use Rattle.settings.specs.declared.Settings.{Settings}
 use Rattle.settings.specs.Ranges.{mostSamples, settingsOk}
 use Rattle.settings.specs.RangesLaws.{settings-in-range}
 use Rattle.settings.specs.Sample.{samplesOk}
+use Rattle.finder.specs.CallLaws.{range-searches}
 use Rattle.items.specs.Items.{wordsOf}
 use Rattle.items.specs.declared.Item.{Item}
 use Rattle.items.specs.declared.Item.the-variants as I
 use Rattle.items.specs.ItemsLaws.{loop-room, loop-less, loop-none}
 use Rattle.channel.specs.Channel.{itemIf, commonOf, channelItems}
-use Rattle.channel.specs.Inner.{channelLength}
-use Rattle.channel.specs.InnerLaws.{length-channel}
+use Rattle.channel.specs.InnerLaws.{length-channel, any-channel}
 use Rattle.channel.specs.BoundLaws.{channel-most}
-use Rattle.event.specs.Event.{row, rowsOk, timeItems, channelsItems, eventItems}
+use Rattle.event.specs.Event.{row, lentOk, rowsOk, timeItems, channelsItems, eventItems}
 use Rattle.event.specs.Inner.{Lent, eventLength}
+
+-- ---- what is lent
+
+pub lent-says : (s : Settings) (posted : List Bool) (store : List ℕ) → lentOk s posted store ≡ true → Lent s posted store
+unfolding lentOk
+lent-says s posted store h =
+    let e = every (settingsOk s ∷ leb (length posted) 16 ∷ leb (16 * s .nw) (length store) ∷ []) h in
+    record { settings = e .0; marks = leb-true _ _ (e .1 .0); rows = leb-true _ _ (e .1 .1 .0) }
+
+pub lent-enough : (s : Settings) (posted : List Bool) (store : List ℕ) → Lent s posted store → lentOk s posted store ≡ true
+unfolding lentOk
+lent-enough s posted store l =
+    all-of (settingsOk s ∷ leb (length posted) 16 ∷ leb (16 * s .nw) (length store) ∷ [])
+    (l .settings, (le-leb _ _ (l .marks), (le-leb _ _ (l .rows), tt)))
 
 -- ---- a row
 
@@ -110,14 +126,15 @@ module _ (buf₀ : List ℕ) (at : ℕ) (s : Settings) (store : List ℕ) (poste
 
 -- ---- channels counted in turn
 
-pub length-posted : (s : Settings) (t c : ℕ) (w : List ℕ) (b : Bool) → settingsOk s ≡ true
-    → length (cond b (channelItems (commonOf s) t c w) []) ≡ cond b (channelLength (commonOf s) t w) 0
-length-posted s t c w true ok = length-channel (commonOf s) t c w (settings-in-range s ok .nsa .0)
+-- a channel's number does not count
+length-posted : (s : Settings) (t c : ℕ) (w : List ℕ) (b : Bool) → settingsOk s ≡ true
+    → length (cond b (channelItems (commonOf s) t c w) []) ≡ cond b (length (channelItems (commonOf s) t 0 w)) 0
+length-posted s t c w true ok = any-channel (commonOf s) t c 0 w (settings-in-range s ok .nsa .0)
 length-posted s t c w false ok = refl
 
 module _ (s : Settings) (store : List ℕ) (posted : List Bool) (ok : settingsOk s ≡ true) (n c : ℕ)
     (so-far : n + length (channelsItems s store c (drop c posted)) ≡ length (channelsItems s store 0 posted)) where
-  pub count-turn : (r : ℕ) → r ≡ cond (getD posted c false) (channelLength (commonOf s) (getD (s .thresholds) c 0) (row (s .nw) c store)) 0 → c < length posted
+  pub count-turn : (r : ℕ) → r ≡ cond (getD posted c false) (length (channelItems (commonOf s) (getD (s .thresholds) c 0) 0 (row (s .nw) c store))) 0 → c < length posted
       → n + r + length (channelsItems s store (c + 1) (drop (c + 1) posted)) ≡ length (channelsItems s store 0 posted)
   count-turn r e h =
       let k = rw (channels-step s store posted c h) at so-far in
@@ -128,8 +145,11 @@ module _ (s : Settings) (store : List ℕ) (posted : List Bool) (ok : settingsOk
   count-end h = let k = rw (channels-end s store posted c h) at so-far in omega (arith, k)
 
 -- a posted channel is at most 753 words
-pub posted-most : (s : Settings) (t : ℕ) (w : List ℕ) (b : Bool) → settingsOk s ≡ true → length w ≤ mostSamples → cond b (channelLength (commonOf s) t w) 0 ≤ 753
-posted-most s t w true ok h = rw (length-channel (commonOf s) t 0 w (settings-in-range s ok .nsa .0)) at (channel-most s t 0 w ok h)
+pub posted-most : (s : Settings) (t : ℕ) (w : List ℕ) (b : Bool) → settingsOk s ≡ true → length w ≤ mostSamples
+    → cond b (length (channelItems (commonOf s) t 0 w)) 0 ≤ 753
+posted-most s t w true ok h =
+    let r = settings-in-range s ok in
+    rw (length-channel (commonOf s) t 0 w (r .nsa .0)) (channel-most s t w (range-searches s (length w) r h))
 posted-most s t w false ok h = omega arith
 
 -- ---- an event

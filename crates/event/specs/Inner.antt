@@ -1,4 +1,4 @@
--- What the functions of an event ask of the crate above, which meets it. Assumes nothing.
+-- What private functions of an event say and ask; no public contract cites it. Assumes nothing.
 use Prim.Native.Nat.{ℕ, _+_, _*_, _≤_}
 use mathlib.Core.Path.{_≡_}
 use mathlib.Core.Bool.{Bool, true}

@@ -5,18 +5,29 @@ use frame::trigger_time_high::TriggerTimeHigh;
 use items::Item;
 use settings::Settings;
 ghost use mathlib.Core.Path.{_≡_};
-ghost use mathlib.Core.Bool.{true, cond, not, _||_};
+ghost use mathlib.Core.Bool.{true, cond, not, _&&_, _||_};
 ghost use mathlib.Core.List.{[]};
 ghost use Prim.Native.Nat.{_+_, _-_, _*_, _^_, _≤_};
+ghost use lib.Dec.{leb, ltb};
 ghost use lib.ListN.{length};
-ghost use Rattle.ground.specs.Splice.{Written};
+ghost use Rattle.ground.specs.Splice.{Written, WrittenIf};
 ghost use Rattle.settings.specs.Ranges.{mostSamples, settingsOk};
 ghost use Rattle.settings.specs.Sample.{samplesOk};
 ghost use Rattle.items.specs.Items.{wordsOf};
 ghost use Rattle.channel.specs.Channel.{commonOf, channelItems};
-ghost use Rattle.channel.specs.Inner.{channelLength};
-ghost use Rattle.event.specs.Event.{rowsOk, timeItems, channelsItems, eventItems};
+ghost use Rattle.event.specs.Event.{lentOk, rowsOk, timeItems, channelsItems, eventItems};
 ghost use Rattle.event.specs.Inner.{Lent, eventLength};
+
+// The most words of an event.
+pub const MOST_EVENT: usize = 12051;
+
+// What is lent is enough for an event: settings in range, at most sixteen marks, sixteen rows. The quotient cannot wrap, whatever NW says.
+fn lent(settings: Settings, posted: &[bool], store: &[u16]) -> bool
+    ensures { λ r. ⌜ r ≡ lentOk settings (now (posted .entry)) (now (store .entry)) ⌝ }
+{
+    let good = settings::in_range(settings);
+    good & (posted.len() <= 16) & (settings.nw <= store.len() / 16)
+}
 
 // A posted channel's row has no sample over the greatest; no other row is looked at.
 fn row_ok(posted: bool, row: &[u16]) -> bool
@@ -30,7 +41,7 @@ fn row_ok(posted: bool, row: &[u16]) -> bool
 }
 
 // The same of every posted channel.
-pub fn rows_ok(settings: Settings, posted: &[bool], store: &[u16]) -> bool
+fn posted_ok(settings: Settings, posted: &[bool], store: &[u16]) -> bool
     requires { ⌜ Lent settings (now posted) (now store) ⌝ }
     ensures { λ r. ⌜ r ≡ rowsOk (settings .nw) (now (store .entry)) 0 (now (posted .entry)) ⌝ }
 {
@@ -44,6 +55,16 @@ pub fn rows_ok(settings: Settings, posted: &[bool], store: &[u16]) -> bool
         channel += 1;
     }
     good
+}
+
+// What is lent is enough, and so are the posted rows.
+pub fn rows_ok(settings: Settings, posted: &[bool], store: &[u16]) -> bool
+    ensures { λ r. ⌜ r ≡ (lentOk settings (now (posted .entry)) (now (store .entry)) && rowsOk (settings .nw) (now (store .entry)) 0 (now (posted .entry))) ⌝ }
+{
+    if lent(settings, posted, store) {
+        return posted_ok(settings, posted, store);
+    }
+    false
 }
 
 // The words of a channel if it is posted.
@@ -117,8 +138,8 @@ fn put_times(words: &mut [u32], at: usize, times: u32, time: u64) -> usize
     channel::put_if(words, second, 2 <= times, Item::ClockHigh(high))
 }
 
-// All words of an event.
-pub fn put_event(
+// All words of an event that has room.
+fn put_lent(
     words: &mut [u32],
     at: usize,
     settings: Settings,
@@ -142,7 +163,7 @@ pub fn put_event(
 
 fn posted_length(settings: Settings, posted: bool, threshold: u32, row: &[u16]) -> usize
     requires { ⌜ (settingsOk settings ≡ true) × (length (now row) ≤ mostSamples) ⌝ }
-    ensures { λ r. ⌜ (r ≡ cond posted (channelLength (commonOf settings) threshold (now (row .entry))) 0) × (r ≤ 753) ⌝ }
+    ensures { λ r. ⌜ (r ≡ cond posted (length (channelItems (commonOf settings) threshold 0 (now (row .entry)))) 0) × (r ≤ 753) ⌝ }
 {
     if posted {
         channel::channel_length(settings, threshold, row)
@@ -174,9 +195,41 @@ fn channels_length(settings: Settings, posted: &[bool], store: &[u16]) -> usize
 }
 
 // How many words an event takes.
-pub fn event_length(settings: Settings, posted: &[bool], store: &[u16]) -> usize
+fn event_length(settings: Settings, posted: &[bool], store: &[u16]) -> usize
     requires { ⌜ Lent settings (now posted) (now store) ⌝ }
     ensures { λ r. ⌜ r ≡ eventLength settings (now (posted .entry)) (now (store .entry)) ⌝ }
 {
     1 + (settings.times as usize) + channels_length(settings, posted, store)
+}
+
+// Fewer words are left than the event takes. Where there is room for the longest event, nothing is counted.
+fn event_short(room: usize, at: usize, settings: Settings, posted: &[bool], store: &[u16]) -> bool
+    requires { ⌜ Lent settings (now posted) (now store) ⌝ }
+    ensures { λ r. ⌜ r ≡ ltb room (at + eventLength settings (now (posted .entry)) (now (store .entry))) ⌝ }
+{
+    if !channel::room_short(room, at, MOST_EVENT) {
+        return false;
+    }
+    channel::room_short(room, at, event_length(settings, posted, store))
+}
+
+// All words of an event, or none: an event has a word, so the place tells.
+pub fn put_event(
+    words: &mut [u32],
+    at: usize,
+    settings: Settings,
+    number: u32,
+    time: u64,
+    posted: &[bool],
+    store: &[u16],
+) -> usize
+    ensures { λ r. ⌜ WrittenIf (lentOk settings (now (posted .entry)) (now (store .entry)) && leb time (2 ^ 48 - 1)) (now (words .entry)) at (wordsOf (eventItems settings number time (now (posted .entry)) (now (store .entry)))) r (now (words .exit)) ⌝ }
+{
+    if !(lent(settings, posted, store) & (time <= 281474976710655)) {
+        return at;
+    }
+    if event_short(words.len(), at, settings, posted, store) {
+        return at;
+    }
+    put_lent(words, at, settings, number, time, posted, store)
 }

@@ -155,7 +155,7 @@ unfoldable pub packed : List Pulse → Pulses
 packed l = record { count = length l; pulses = sets (replicate 3 noPulse) 0 l }
 
 -- what settings in range say of a search: the samples, NSA and the limit
-abbrev pub searchable : ℕ → ℕ → ℕ → Bool
+unfoldable pub searchable : ℕ → ℕ → ℕ → Bool
 searchable n nsa limit = allOf (leb n mostSamples ∷ leb 1 nsa ∷ leb nsa 511 ∷ leb limit 3 ∷ [])
 
 -- the pulses alone, for a caller that made the refusals itself

@@ -7,7 +7,7 @@ ghost use mathlib.Core.List.{[]};
 ghost use lib.ListN.{length};
 ghost use Rattle.settings.specs.Ranges.{mostSamples};
 ghost use Rattle.settings.specs.Refusal.{numberOf};
-ghost use Rattle.finder.specs.Find.{ampAt, over, firstOver, overIn, anyOver, nextTc, tcFrom, setFirst, setLast, integral, early, vmin, firstFall, n1, edgeTime, tcOnly, timeAt, pulseAt, pulsesFrom, noPulse, packed, findAll, ruleNumber};
+ghost use Rattle.finder.specs.Find.{ampAt, over, firstOver, overIn, anyOver, nextTc, tcFrom, setFirst, setLast, integral, early, vmin, firstFall, n1, edgeTime, tcOnly, timeAt, pulseAt, pulsesFrom, noPulse, packed, searchable, findAll, ruleNumber};
 ghost use Rattle.finder.specs.Call.{findNumber, FindSays};
 ghost use Rattle.finder.specs.Asked.{IsOver, HasEdge};
 
@@ -337,11 +337,18 @@ fn all_pulses(window: &[u16], threshold: u32, nsb: usize, nsa: usize, limit: usi
     Pulses { count, pulses }
 }
 
+// The numbers can be those of settings in range.
+pub fn can_search(samples: usize, nsa: usize, limit: usize) -> bool
+    ensures { λ r. ⌜ r ≡ searchable samples nsa limit ⌝ }
+{
+    (samples <= settings::MOST_SAMPLES) & (1 <= nsa) & (nsa <= 511) & (limit <= 3)
+}
+
 // The pulses alone, for a caller that made the refusals itself. Numbers that no settings in range have give none.
 pub fn pulses_of(window: &[u16], threshold: u32, nsb: usize, nsa: usize, limit: usize) -> Pulses
     ensures { λ r. ⌜ r ≡ findAll (now (window .entry)) threshold nsb nsa limit ⌝ }
 {
-    if (window.len() <= settings::MOST_SAMPLES) & (1 <= nsa) & (nsa <= 511) & (limit <= 3) {
+    if can_search(window.len(), nsa, limit) {
         all_pulses(window, threshold, nsb, nsa, limit)
     } else {
         no_pulses()

@@ -1,12 +1,13 @@
 -- The words of lists of records, and the laws of writing said of records. Assumes nothing.
-use Prim.Native.Nat.{ℕ, suc, _+_, _≤_}
+use Prim.Native.Nat.{ℕ, suc, _+_, _≤_, _<_}
 use mathlib.Core.Path.{_≡_, refl, ap, _∙_}
+use mathlib.Core.Bool.{Bool, true}
 use mathlib.Core.List.{List, [], _∷_, _++_, append-nil}
 use native.Mathlib.Omega.{arith}
 use lib.ListN.{length, length-append}
-use Rattle.ground.specs.Splice.{Written}
+use Rattle.ground.specs.Splice.{Written, WrittenIf}
 use Rattle.ground.specs.SpliceLaws.{length-splice}
-use Rattle.ground.specs.WritingLaws.{Left, left-room, left-less, left-none, written-then}
+use Rattle.ground.specs.WritingLaws.{Left, left-room, left-less, left-none, written-then, wrote, written, no-room}
 use Rattle.items.specs.Items.{wordOf, wordsOf}
 use Rattle.items.specs.declared.Item.{Item}
 
@@ -35,6 +36,19 @@ then-room b at xs ys k b₁ h w =
 pub then-written : (b : List ℕ) (at : ℕ) (xs : List Item) (k : ℕ) (b₁ : List ℕ) (ys : List Item) (n : ℕ) (b₂ : List ℕ) → at ≤ length b
     → Written b at (wordsOf xs) k b₁ → Written b₁ k (wordsOf ys) n b₂ → Written b at (wordsOf (xs ++ ys)) n b₂
 then-written b at xs k b₁ ys n b₂ h p q = rw (words-append xs ys) (written-then b at (wordsOf xs) k b₁ (wordsOf ys) n b₂ h p q)
+
+-- a writer that may be lent anything: one that has room writes, one that has none does not
+module _ {b : List ℕ} {at : ℕ} (xs : List Item) where
+  pub put-written : {good : Bool} {next : ℕ} {b′ : List ℕ} → good ≡ true → at + length xs ≤ length b → WrittenIf good b at (wordsOf xs) next b′
+      → Written b at (wordsOf xs) next b′
+  put-written g h w = written g (rw (length-words xs) h) w
+
+  pub put-wrote : {good : Bool} {next : ℕ} {b′ : List ℕ} → good ≡ true → at + length xs ≤ length b → Written b at (wordsOf xs) next b′
+      → WrittenIf good b at (wordsOf xs) next b′
+  put-wrote g h w = wrote g (rw (length-words xs) h) w
+
+  pub put-nothing : {good : Bool} → length b < at + length xs → WrittenIf good b at (wordsOf xs) at b
+  put-nothing h = no-room (rw (length-words xs) h)
 
 -- ---- a loop of writers
 

@@ -1,30 +1,23 @@
--- `channel::channel_length` meets its contract: the count of what the finder gives.
-use Rattle.channel.specs.InnerLaws.{is-found, channel-counted}
+-- `channel::channel_length` meets its contract.
+use mathlib.Core.Path.{sym, _∙_}
 use borrow.Author.Needs.{needs}
+use Rattle.finder.specs.FindLaws.{searched}
+use Rattle.channel.specs.Channel.{commonOf}
+use Rattle.channel.specs.InnerLaws.{length-channel}
 use Rattle.channel.proofs.channel_length.Statement.{statement}
 use Rattle.channel.proofs.channel_length.Tie as tie
 
-pulses-length-requires : tie.Need-pulses-length-requires
-pulses-length-requires c κs =
-    let a = c .before .before .before .before .before in
-    (is-found _ _ _ _ _ (a .pre .0) (a .pre .1) (c .before .pulses-for .ensures) .inside, a .pre .1)
+count-found-requires : tie.Need-count-found-requires
+count-found-requires c κs = sym (c .before .can-search .ensures) ∙ c .if1 .taken
 
 returns : tie.Need-returns
 returns c =
-    let a = c .before .before .before .before .before .before in
-    channel-counted _ _ _ _ _ _ _ _ (c .before .before .before .before .parts-of .ensures) (c .before .before .before .window-for .ensures)
-    (is-found _ _ _ _ _ (a .pre .0) (a .pre .1) (c .before .before .pulses-for .ensures))
-    (c .before .window-length .ensures .0)
-    (c .pulses-length .ensures .0)
+    let a = c .before .before .before .before .args in
+    let asked = sym (c .before .before .can-search .ensures) ∙ c .before .if1 .taken in
+    rw asked (c .count-found .ensures ∙ sym (length-channel (commonOf (a .settings)) (a .threshold) 0 (a .row .now) (searched _ _ _ asked .some)))
+
+returns-2 : tie.Need-returns-2
+returns-2 c = rw (sym (c .before .can-search .ensures) ∙ c .if1 .left)
 
 pub channel-length-spec : {M : Type 1} → statement M
-channel-length-spec =
-    tie.close
-    (tie.spec
-    (λ c κs. search needs)
-    (λ c κs. search needs)
-    (λ c κs. search needs)
-    (λ c κs. search needs)
-    pulses-length-requires
-    (λ c. search needs)
-    returns)
+channel-length-spec = tie.close (tie.spec (λ c κs. search needs) count-found-requires returns returns-2)

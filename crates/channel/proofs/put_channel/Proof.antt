@@ -1,56 +1,57 @@
--- `channel::put_channel` meets its contract: the window where it is wanted, then the pulses that the finder gave.
+-- `channel::put_channel` meets its contract: what cannot be searched or has no room is not written.
 use Prim.Native.Nat.{_+_, _≤_}
-use mathlib.Core.Path.{_≡_}
-use mathlib.Core.Bool.{cond}
-use mathlib.Core.List.{List, [], _++_}
-use native.Mathlib.Omega.{arith}
+use mathlib.Core.Path.{_≡_, sym, _∙_}
+use mathlib.Core.Bool.{true}
 use borrow.Author.Needs.{needs}
+use borrow.Author.Tests.{ltb-true, ltb-false, not-true, not-false}
 use lib.ListN.{length}
-use Rattle.items.specs.declared.Item.{Item}
-use Rattle.items.specs.ItemsLaws.{first-room, then-room, then-written}
-use Rattle.channel.specs.Channel.{windowItems, pulsesItems, commonOf, channelItems}
-use Rattle.channel.specs.Inner.{listed}
-use Rattle.channel.specs.InnerLaws.{IsFound, is-found, channel-found}
+use Rattle.ground.specs.WritingLaws.{not-asked}
+use Rattle.finder.specs.Find.{searchable}
+use Rattle.finder.specs.FindLaws.{searched}
+use Rattle.items.specs.ItemsLaws.{put-wrote, put-nothing}
+use Rattle.channel.specs.Channel.{commonOf, channelItems}
+use Rattle.channel.specs.Inner.{channelLength}
+use Rattle.channel.specs.InnerLaws.{length-channel}
 use Rattle.channel.proofs.put_channel.Statement.{statement}
 use Rattle.channel.proofs.put_channel.Tie as tie
 
--- what is known once the finder has answered
-module _ (c : tie.After-pulses-for) where
-  found : IsFound (c .before .before .before .before .before .args .settings) (c .before .before .before .before .before .args .threshold) (c .before .before .before .before .before .args .row .now) (c .before .before .parts-of .result) (c .pulses-for .result)
-  found = is-found _ _ _ _ _ (c .before .before .before .before .before .pre .0 .0) (c .before .before .before .before .before .pre .0 .1) (c .pulses-for .ensures)
+-- where the second test is made
+module _ (c : tie.Else1) where
+  asked : searchable (length (c .before .before .before .before .args .row .now)) (c .before .before .before .before .args .settings .nsa) (c .before .before .before .before .args .settings .limit) ≡ true
+  asked = sym (c .before .can-search .ensures) ∙ not-false _ (c .if1 .left)
 
-  window : List Item
-  window = cond (c .before .window-for .result) (windowItems (c .before .before .before .before .before .args .channel) (c .before .before .before .before .before .args .row .now)) []
-
-  pulses : List Item
-  pulses = pulsesItems (c .before .before .parts-of .result) (c .before .before .before .before .before .args .channel) (c .before .before .before .before .before .args .row .now) 0 (listed (c .pulses-for .result))
-
-  are : channelItems (commonOf (c .before .before .before .before .before .args .settings)) (c .before .before .before .before .before .args .threshold) (c .before .before .before .before .before .args .channel) (c .before .before .before .before .before .args .row .now) ≡ window ++ pulses
-  unfolding window pulses
-  are = channel-found _ _ _ _ _ _ _ (c .before .before .parts-of .ensures) (c .before .window-for .ensures) found
-
-  room : c .before .before .before .before .before .args .at + length (window ++ pulses) ≤ length (c .before .before .before .before .before .args .words .now)
-  room = rw are at (c .before .before .before .before .before .pre .1)
-
-put-window-if-requires : tie.Need-put-window-if-requires
-unfolding window
-put-window-if-requires c κs =
-    let f = c .before in
-    (f .before .before .before .before .before .pre .0 .1, first-room _ _ (window f) _ (room f))
-
-put-pulses-requires : tie.Need-put-pulses-requires
-unfolding window pulses
-put-pulses-requires c κs =
-    let f = c .before .before .before .before .before in
-    ((found f .inside, f .before .before .before .before .before .pre .0 .1), then-room _ _ (window f) (pulses f) _ _ (room f) (c .before .before .before .put-window-if .ensures))
+  size : length (channelItems (commonOf (c .before .before .before .before .args .settings)) (c .before .before .before .before .args .threshold) (c .before .before .before .before .args .channel) (c .before .before .before .before .args .row .now)) ≡ channelLength (commonOf (c .before .before .before .before .args .settings)) (c .before .before .before .before .args .threshold) (c .before .before .before .before .args .row .now)
+  size = length-channel (commonOf (c .before .before .before .before .args .settings)) (c .before .before .before .before .args .threshold) (c .before .before .before .before .args .channel) (c .before .before .before .before .args .row .now) (searched _ _ _ asked .some)
 
 returns : tie.Need-returns
-unfolding window pulses
-returns c =
-    let f = c .before .before .before .before .before .before .before .before in
-    rw (are f)
-    (then-written _ _ (window f) _ _ (pulses f) _ _ (omega (arith, room f)) (c .before .before .before .before .before .before .put-window-if .ensures) (c .before .before .put-pulses .ensures))
+returns c = not-asked (sym (c .before .can-search .ensures) ∙ not-true _ (c .if1 .taken))
+
+returns-2 : tie.Need-returns-2
+returns-2 c =
+    let a = c .before .before .before .before .before .before .args in
+    put-nothing (channelItems (commonOf (a .settings)) (a .threshold) (a .channel) (a .row .now))
+    (rw (size (c .before .before)) (ltb-true _ _ (sym (c .before .channel-short .ensures) ∙ c .if2 .taken)))
+
+room : (c : tie.Else2) → c .before .before .before .before .before .before .args .at + length (channelItems (commonOf (c .before .before .before .before .before .before .args .settings)) (c .before .before .before .before .before .before .args .threshold) (c .before .before .before .before .before .before .args .channel) (c .before .before .before .before .before .before .args .row .now)) ≤ length (c .before .before .before .before .before .before .args .words .now)
+room c = rw (size (c .before .before)) (ltb-false _ _ (sym (c .before .channel-short .ensures) ∙ c .if2 .left))
+
+put-found-requires : tie.Need-put-found-requires
+put-found-requires c κs = (asked (c .before .before .before), room (c .before))
+
+returns-3 : tie.Need-returns-3
+returns-3 c =
+    let a = c .before .before .before .before .before .before .before .before .before .before .args in
+    put-wrote (channelItems (commonOf (a .settings)) (a .threshold) (a .channel) (a .row .now)) (asked (c .before .before .before .before .before .before))
+    (room (c .before .before .before .before)) (c .before .before .put-found .ensures)
 
 pub put-channel-spec : {M : Type 1} → statement M
 put-channel-spec =
-    tie.close (tie.spec (λ c κs. tt) (λ c κs. tt) (λ c κs. tt) put-window-if-requires put-pulses-requires (λ c. search needs) returns)
+    tie.close
+    (tie.spec
+    (λ c κs. search needs)
+    returns
+    (λ c κs. asked c)
+    returns-2
+    put-found-requires
+    (λ c. search needs)
+    returns-3)

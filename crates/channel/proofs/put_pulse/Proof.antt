@@ -1,4 +1,5 @@
 -- `channel::put_pulse` meets its contract: its records one after the other, each where the mode writes it.
+use mathlib.Core.Path.{refl}
 use mathlib.Core.List.{List, [], _++_}
 use mathlib.Core.Bool.{cond}
 use Prim.Native.Nat.{_+_, _≤_}
@@ -8,7 +9,7 @@ use lib.ListN.{length}
 use Rattle.ground.specs.Splice.{Written}
 use Rattle.items.specs.Items.{wordsOf}
 use Rattle.items.specs.declared.Item.{Item}
-use Rattle.items.specs.ItemsLaws.{first-room, then-room, then-written}
+use Rattle.items.specs.ItemsLaws.{first-room, then-room, put-written, then-written}
 use Rattle.channel.specs.Channel.{rawItems, integralItem, timeItem, pedestalItem, itemIf, pulseItems}
 use Rattle.channel.proofs.put_pulse.Statement.{statement}
 use Rattle.channel.proofs.put_pulse.Tie as tie
@@ -46,7 +47,7 @@ behind-raw c = then-room _ _ (raw (c .before .before .before .before .before .be
 wrote-integral : (c : tie.After-put-if)
     → Written (c .before .before .before .before .before .put-raw-if .last .0) (c .before .before .before .before .before .put-raw-if .result) (wordsOf (integral (c .before .before .before .before .before .before .before .before .before))) (c .put-if .result) (c .put-if .last .0)
 unfolding integral
-wrote-integral c = rw (c .before .integral-of .ensures) at (c .put-if .ensures)
+wrote-integral c = put-written (integral (c .before .before .before .before .before .before .before .before .before)) refl (first-room _ _ (integral (c .before .before .before .before .before .before .before .before .before)) _ (behind-raw (c .before))) (rw (c .before .integral-of .ensures) at (c .put-if .ensures))
 
 behind-integral : (c : tie.After-time-of) → c .before .before .before .before .put-if .result + length (time (c .before .before .before .before .before .before .before .before .before .before .before .before .before) ++ pedestal (c .before .before .before .before .before .before .before .before .before .before .before .before .before)) ≤ length (c .before .before .before .before .put-if .last .0)
 behind-integral c = then-room _ _ (integral (c .before .before .before .before .before .before .before .before .before .before .before .before .before)) (time (c .before .before .before .before .before .before .before .before .before .before .before .before .before) ++ pedestal (c .before .before .before .before .before .before .before .before .before .before .before .before .before)) _ _ (behind-raw (c .before .before .before .before .before)) (wrote-integral (c .before .before .before .before))
@@ -54,7 +55,7 @@ behind-integral c = then-room _ _ (integral (c .before .before .before .before .
 wrote-time : (c : tie.After-put-if2)
     → Written (c .before .before .before .before .before .put-if .last .0) (c .before .before .before .before .before .put-if .result) (wordsOf (time (c .before .before .before .before .before .before .before .before .before .before .before .before .before .before))) (c .put-if2 .result) (c .put-if2 .last .0)
 unfolding time
-wrote-time c = rw (c .before .time-of .ensures) at (c .put-if2 .ensures)
+wrote-time c = put-written (time (c .before .before .before .before .before .before .before .before .before .before .before .before .before .before)) refl (first-room _ _ (time (c .before .before .before .before .before .before .before .before .before .before .before .before .before .before)) _ (behind-integral (c .before))) (rw (c .before .time-of .ensures) at (c .put-if2 .ensures))
 
 behind-time : (c : tie.After-pedestal-of) → c .before .before .before .before .put-if2 .result + length (pedestal (c .before .before .before .before .before .before .before .before .before .before .before .before .before .before .before .before .before .before)) ≤ length (c .before .before .before .before .put-if2 .last .0)
 behind-time c = then-room _ _ (time (c .before .before .before .before .before .before .before .before .before .before .before .before .before .before .before .before .before .before)) (pedestal (c .before .before .before .before .before .before .before .before .before .before .before .before .before .before .before .before .before .before)) _ _ (behind-integral (c .before .before .before .before .before)) (wrote-time (c .before .before .before .before))
@@ -62,19 +63,7 @@ behind-time c = then-room _ _ (time (c .before .before .before .before .before .
 wrote-pedestal : (c : tie.After-put-if3)
     → Written (c .before .before .before .before .before .put-if2 .last .0) (c .before .before .before .before .before .put-if2 .result) (wordsOf (pedestal (c .before .before .before .before .before .before .before .before .before .before .before .before .before .before .before .before .before .before .before))) (c .put-if3 .result) (c .put-if3 .last .0)
 unfolding pedestal
-wrote-pedestal c = rw (c .before .pedestal-of .ensures) at (c .put-if3 .ensures)
-
-put-if-requires : tie.Need-put-if-requires
-unfolding integral
-put-if-requires c κs = rw (c .integral-of .ensures) (first-room _ _ (integral (c .before .before .before .before .before .before .before .before)) _ (behind-raw c))
-
-put-if-requires-2 : tie.Need-put-if-requires-2
-unfolding time
-put-if-requires-2 c κs = rw (c .time-of .ensures) (first-room _ _ (time (c .before .before .before .before .before .before .before .before .before .before .before .before .before)) _ (behind-integral c))
-
-put-if-requires-3 : tie.Need-put-if-requires-3
-unfolding pedestal
-put-if-requires-3 c κs = rw (c .pedestal-of .ensures) (behind-time c)
+wrote-pedestal c = put-written (pedestal (c .before .before .before .before .before .before .before .before .before .before .before .before .before .before .before .before .before .before .before)) refl (behind-time (c .before)) (rw (c .before .pedestal-of .ensures) at (c .put-if3 .ensures))
 
 returns : tie.Need-returns
 unfolding pulseItems raw integral time pedestal
@@ -90,10 +79,10 @@ put-pulse-spec =
     (tie.spec
     put-raw-if-requires
     (λ c κs. tt)
-    put-if-requires
-    (λ c κs. search needs)
-    put-if-requires-2
     (λ c κs. tt)
-    put-if-requires-3
+    (λ c κs. search needs)
+    (λ c κs. tt)
+    (λ c κs. tt)
+    (λ c κs. tt)
     (λ c. search needs)
     returns)

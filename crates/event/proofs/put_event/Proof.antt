@@ -1,56 +1,68 @@
--- `event::put_event` meets its contract: header, time words, posted channels.
-use Prim.Native.Nat.{_+_, _≤_}
-use mathlib.Core.List.{List, [], _∷_, _++_}
-use native.Mathlib.Omega.{arith}
+-- `event::put_event` meets its contract: what is not lent or has no room is not written.
+use Prim.Native.Nat.{_+_, _-_, _^_, _≤_}
+use mathlib.Core.Path.{_≡_, sym, ap, _∙_}
+use mathlib.Core.Bool.{Bool, true, _&&_}
 use borrow.Author.Needs.{needs}
+use borrow.Author.Tests.{ltb-true, ltb-false, leb-true, not-true, not-false}
+use lib.Dec.{leb}
 use lib.ListN.{length}
-use Rattle.items.specs.declared.Item.{Item}
-use Rattle.items.specs.declared.Item.the-variants as I
-use Rattle.items.specs.ItemsLaws.{first-room, then-room, then-written}
-use Rattle.event.specs.Event.{timeItems, channelsItems, eventItems}
+use Rattle.ground.specs.TestsLaws.{and-left, and-right}
+use Rattle.ground.specs.WritingLaws.{not-asked}
+use Rattle.items.specs.ItemsLaws.{put-wrote, put-nothing}
+use Rattle.event.specs.Event.{lentOk, eventItems}
+use Rattle.event.specs.Inner.{Lent, eventLength}
+use Rattle.event.specs.EventLaws.{lent-says, length-event}
 use Rattle.event.proofs.put_event.Statement.{statement}
 use Rattle.event.proofs.put_event.Tie as tie
 
--- the three parts, as lists of records
-module _ (c : tie.Start) where
-  header : List Item
-  header = I.Event (record { slot = c .args .settings .slot; number = c .args .number }) ∷ []
+-- where the second test is made
+module _ (c : tie.Else1) where
+  abbrev start : tie.Start
+  start = c .before .before .before .before .before
 
-  times : List Item
-  times = timeItems (c .args .settings .times) (c .args .time)
+  asked : lentOk (start .args .settings) (start .args .posted .now) (start .args .store .now) && leb (start .args .time) (2 ^ 48 - 1) ≡ true
+  asked = sym (ap (λ (b : Bool). b && leb (start .args .time) (2 ^ 48 - 1)) (c .before .lent .ensures)) ∙ not-false _ (c .if1 .left)
 
-  channels : List Item
-  channels = channelsItems (c .args .settings) (c .args .store .now) 0 (c .args .posted .now)
+  enough : Lent (start .args .settings) (start .args .posted .now) (start .args .store .now)
+  enough = lent-says _ _ _ (and-left _ (leb (start .args .time) (2 ^ 48 - 1)) asked)
 
-  whole : c .args .at + length (header ++ (times ++ channels)) ≤ length (c .args .words .now)
-  unfolding eventItems header times channels
-  whole = c .pre .1
-
-put-item-requires : tie.Need-put-item-requires
-unfolding header
-put-item-requires c κs = let s = c .before .before .before .before in let r = first-room _ _ (header s) (times s ++ channels s) (whole s) in omega (arith, r)
-
-behind-header : (c : tie.After-put-times-arg)
-    → c .before .before .before .put-item .result + length (times (c .before .before .before .before .before .before .before .before) ++ channels (c .before .before .before .before .before .before .before .before)) ≤ length (c .before .before .before .put-item .last .0)
-unfolding header
-behind-header c = let s = c .before .before .before .before .before .before .before .before in then-room _ _ (header s) (times s ++ channels s) _ _ (whole s) (c .before .before .before .put-item .ensures)
-
-put-times-requires : tie.Need-put-times-requires
-unfolding times
-put-times-requires c κs = let s = c .before .before .before .before .before .before .before .before in (s .pre .0 .1, first-room _ _ (times s) (channels s) (behind-header c))
-
-put-channels-requires : tie.Need-put-channels-requires
-unfolding times channels
-put-channels-requires c κs =
-    let s = c .before .before .before .before .before .before .before .before .before .before .before .before in
-    (s .pre .0 .0, then-room _ _ (times s) (channels s) _ _ (behind-header (c .before .before .before .before)) (c .before .before .before .put-times .ensures))
+  size : length (eventItems (start .args .settings) (start .args .number) (start .args .time) (start .args .posted .now) (start .args .store .now)) ≡ eventLength (start .args .settings) (start .args .posted .now) (start .args .store .now)
+  size = length-event (start .args .settings) (start .args .number) (start .args .time) (start .args .posted .now) (start .args .store .now) (enough .settings)
 
 returns : tie.Need-returns
-unfolding eventItems header times channels
 returns c =
-    let s = c .before .before .before .before .before .before .before .before .before .before .before .before .before .before .before in
-    let rest = then-written _ _ (times s) _ _ (channels s) _ _ (omega (arith, behind-header (c .before .before .before .before .before .before .before))) (c .before .before .before .before .before .before .put-times .ensures) (c .before .before .put-channels .ensures) in
-    then-written _ _ (header s) _ _ (times s ++ channels s) _ _ (omega (arith, whole s)) (c .before .before .before .before .before .before .before .before .before .before .put-item .ensures) rest
+    let time = c .before .before .before .before .before .args .time in
+    not-asked (rw (c .before .lent .ensures) at (not-true (c .before .lent .result && leb time (2 ^ 48 - 1)) (c .if1 .taken)))
+
+returns-2 : tie.Need-returns-2
+returns-2 c =
+    let a = start (c .before .before) .args in
+    put-nothing (eventItems (a .settings) (a .number) (a .time) (a .posted .now) (a .store .now))
+    (rw (size (c .before .before)) (ltb-true _ _ (sym (c .before .event-short .ensures) ∙ c .if2 .taken)))
+
+room : (c : tie.Else2) → let a = start (c .before .before) .args in a .at + length (eventItems (a .settings) (a .number) (a .time) (a .posted .now) (a .store .now)) ≤ length (a .words .now)
+room c = rw (size (c .before .before)) (ltb-false _ _ (sym (c .before .event-short .ensures) ∙ c .if2 .left))
+
+put-lent-requires : tie.Need-put-lent-requires
+put-lent-requires c κs =
+    let e = c .before .before .before in
+    ((enough e, leb-true _ _ (and-right (lentOk (start e .args .settings) (start e .args .posted .now) (start e .args .store .now)) _ (asked e))), room (c .before))
+
+returns-3 : tie.Need-returns-3
+returns-3 c =
+    let e = c .before .before .before .before .before .before in
+    let a = start e .args in
+    put-wrote (eventItems (a .settings) (a .number) (a .time) (a .posted .now) (a .store .now)) (asked e) (room (c .before .before .before .before))
+    (c .before .before .put-lent .ensures)
 
 pub put-event-spec : {M : Type 1} → statement M
-put-event-spec = tie.close (tie.spec put-item-requires put-times-requires put-channels-requires (λ c. search needs) returns)
+put-event-spec =
+    tie.close
+    (tie.spec
+    (λ c κs. search needs)
+    returns
+    (λ c κs. enough c)
+    returns-2
+    put-lent-requires
+    (λ c. search needs)
+    returns-3)
