@@ -28,7 +28,8 @@ use Rattle.claims.specs.Run as R
 use Rattle.claims.specs.RunLaws.{ReadBack, run-reads-back}
 use Rattle.claims.specs.Reads.{Reads}
 use Rattle.claims.specs.ReadsLaws.{run-next}
-use Rattle.claims.specs.CheckLaws.{bytesOfWords, run-checked}
+use Rattle.claims.specs.Bytes.{bytesOfWords}
+use Rattle.claims.specs.CheckLaws.{run-checked}
 use Rattle.claims.specs.FromC.{Call, CRun, IsRun, CPostRun, CEventRun, settingsOf, cWordsFor}
 use Rattle.claims.specs.FromC as C
 use Rattle.claims.specs.FromCLaws.{over, below, open-block-call, open-event-call, post-call, close-call, finish-call}

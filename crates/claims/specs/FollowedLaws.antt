@@ -21,7 +21,8 @@ use Rattle.claims.specs.NothingLost.{AllWords}
 use Rattle.claims.specs.Grammar.{Tree, block, empty, recordsOf, Spelt, SpeltTree, Ends, Front}
 use Rattle.claims.specs.WrongLaws.{first-wrong}
 use Rattle.claims.specs.ExactLaws.{spelt-length, alone, followed, accepted-exactly}
-use Rattle.claims.specs.CheckLaws.{bytesOfWords, words-back, four, check-bytes}
+use Rattle.claims.specs.Bytes.{bytesOfWords}
+use Rattle.claims.specs.CheckLaws.{words-back, four, check-bytes}
 
 -- ---- the C check
 

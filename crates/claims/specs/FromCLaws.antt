@@ -15,6 +15,7 @@ use Rattle.settings.specs.Ranges.{settingsOk}
 use Rattle.settings.specs.Refusal.{numberOf}
 use Rattle.finder.specs.Find.{packed}
 use Rattle.finder.specs.Call.{findTable, findNumber, foundPulses}
+use Rattle.finder.specs.RulesLaws.{find-says}
 use Rattle.writer.specs.declared.State.{State}
 use Rattle.writer.specs.declared.Answer.{Answer}
 use Rattle.writer.specs.State.{idle, blank, withEvent}
@@ -289,7 +290,7 @@ find-call m c w out r out′ e l f =
     let same : r ≡ k = f .number ∙ (ap₂ (λ (a b : Bool). orElse (cond a k 1) (cond b 9 0)) e (le-ltb (length out) 28 l) ∙ none-later k) in
     record {
       answer = record { refusal = refusalIn rows; found = packed (foundPulses (settingsFrom m) c w) };
-      said = record { refusal = number-in rows refl; found = refl };
+      said = find-says (settingsFrom m) c w (number-in rows refl) refl;
       number = number-in rows refl ∙ sym same;
       found = f .numbers;
     }

@@ -1,6 +1,6 @@
 -- The samples that a block carries: those that are read back, by `next` and `part`, and those that were sent. Each stands beside the record that heads
 -- it, a window or a pulse raw. Assumes nothing.
-use Prim.Native.Nat.{ℕ, _+_}
+use Prim.Native.Nat.{ℕ, zero, suc, _+_}
 use mathlib.Core.Bool.{Bool, cond, _&&_}
 use mathlib.Core.List.{List, [], _∷_, _++_}
 use lib.Dec.{eqb}
@@ -74,6 +74,15 @@ channelSent s c w =
 unfoldable pub rowsSent : Settings → List ℕ → ℕ → List Bool → List (Item × List ℕ)
 rowsSent s store c [] = []
 rowsSent s store c (mark ∷ more) = cond mark (channelSent s c (row (s .nw) c store)) [] ++ rowsSent s store (c + 1) more
+
+-- the same by the windows posted, none or one for a channel: n channels from c on
+abbrev pub windowSent : Settings → ℕ → List (List ℕ) → List (Item × List ℕ)
+windowSent s c [] = []
+windowSent s c (w ∷ more) = channelSent s c w
+
+unfoldable pub windowsSent : Settings → (ℕ → List (List ℕ)) → ℕ → ℕ → List (Item × List ℕ)
+windowsSent s windows c zero = []
+windowsSent s windows c (suc n) = windowSent s c (windows c) ++ windowsSent s windows (c + 1) n
 
 -- by a run of calls: what its closes send, each of the store then lent
 unfoldable pub samplesSent : {s : State} {words : List ℕ} {xs : List Item} → Run s words xs → List (Item × List ℕ)

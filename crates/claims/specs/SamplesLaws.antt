@@ -1,16 +1,13 @@
 -- Demand 2 over samples: "reading back a block made by our calls gives every field as written", in modes 1, 2 and 8 every sample. Assumes nothing.
-use Prim.Native.Nat.{ℕ, zero, suc, _+_, _*_, _≤_}
+use Prim.Native.Nat.{ℕ, zero, suc, _+_}
 use mathlib.Core.Path.{_≡_, refl, sym, ap, ap₂, _∙_, subst}
 use mathlib.Core.Bool.{Bool, true, false, not, cond, _&&_, _||_}
 use mathlib.Core.List.{List, [], _∷_, _++_, map, append-assoc, append-nil}
-use native.Mathlib.Omega.{arith}
 use borrow.Author.Tests.{le-leb, eqb-true}
 use lib.Dec.{eqb, leb}
-use lib.ListN.{length, getD, take, drop, replicate}
+use lib.ListN.{length, getD, drop, replicate}
 use Rattle.ground.specs.Tests.{oneOf}
 use Rattle.ground.specs.TestsLaws.{Under, under, and-left, and-right}
-use Rattle.ground.specs.Splice.{splice}
-use Rattle.ground.specs.SpliceLaws.{row-same}
 use Rattle.settings.specs.declared.Settings.{Settings}
 use Rattle.settings.specs.Refusal.{numberOf}
 use Rattle.settings.specs.Sample.{samplesOk}
@@ -31,17 +28,20 @@ use Rattle.channel.specs.declared.Parts.{Parts}
 use Rattle.channel.specs.Channel.{pairItems, windowItems, setOf, rawItems, integralItem, timeItem, pedestalItem, itemIf, modeTable, rowOfMode, partsOf, pulseItems, pulsesItems, commonOf, pulsesOf, channelItems}
 use Rattle.event.specs.Event.{row, rowsOk, timeItems, channelsItems, eventItems}
 use Rattle.writer.specs.declared.State.{State}
-use Rattle.writer.specs.declared.Answer.{Answer}
 use Rattle.writer.specs.declared.Finished.{Finished}
-use Rattle.writer.specs.Calls.{blockItems, rowStart, postNumber, PostSays, closingItems, closeNumber, fillersTo, endItems, FinishSays}
-use Rattle.writer.specs.CallsLaws.{done, PostAccepted, post-accepted, row-fits, close-accepted}
+use Rattle.writer.specs.Calls.{blockItems, closingItems, closeNumber, fillersTo, endItems, FinishSays}
+use Rattle.writer.specs.CallsLaws.{close-accepted}
 use Rattle.claims.specs.PassLaws.{both}
 use Rattle.claims.specs.Grammar.{Each}
 use Rattle.claims.specs.WrittenLaws.{under-set, pairs}
 use Rattle.claims.specs.Reads.{PartRead, Reads, at-end, took}
 use Rattle.claims.specs.ReadsLaws.{run-next}
 use Rattle.claims.specs.Run.{Run, opened, begun, posted, closed, not-closed, not-opened, not-finished}
-use Rattle.claims.specs.Samples.{ifValid, samplesOf, recordSamples, samplesRead, setsSent, channelSent, rowsSent, samplesSent}
+use Rattle.claims.specs.Order.{Bench, Post}
+use Rattle.claims.specs.OrderLaws.{answerOf, has, run-posts}
+use Rattle.claims.specs.Own.{EventRun, settingsIn, windowOf}
+use Rattle.claims.specs.OwnLaws.{windowFor, itemsFor, ownItems, own-records}
+use Rattle.claims.specs.Samples.{ifValid, samplesOf, recordSamples, samplesRead, setsSent, channelSent, rowsSent, windowSent, windowsSent, samplesSent}
 
 -- ---- pairs of samples
 
@@ -289,12 +289,43 @@ run-samples {s} {words} {xs} run f words′ h e =
     read-among (run-next run f words′ h e)
     ∙ (ap among (sym (append-nil (xs ++ endItems (s .settings) (s .words)))) ∙ (c .all [] refl ∙ (append-nil (samplesSent run ++ []) ∙ append-nil (samplesSent run))))
 
--- where the host left the row alone, that is the window posted
-pub post-row : (s : State) (store : List ℕ) (c : ℕ) (w : List ℕ) (r : Answer) (store′ : List ℕ) → PostSays s store c w r store′ → numberOf (r .refusal) ≡ 0 → row (s .settings .nw) c store′ ≡ w
-unfolding row
-post-row s store c w r store′ h e =
-    let n : postNumber s (length store) c w ≡ 0 = sym (h .refusal) ∙ e in
-    let a : PostAccepted s (length store) c w = post-accepted s (length store) c w n in
-    let at : rowStart s c ≤ length store = omega (arith, row-fits s (length store) c w a) in
-    ap (λ (l : List ℕ). take (s .settings .nw) (drop (c * s .settings .nw) l)) (h .rows ∙ done _ _ n)
-    ∙ (ap (λ (k : ℕ). take k (drop (rowStart s c) (splice store (rowStart s c) w))) (sym (a .whole)) ∙ row-same store (rowStart s c) w at)
+-- ---- an event that is opened, posted and closed over one store
+
+own-sends : (s : Settings) (windows : ℕ → List (List ℕ)) → ((c : ℕ) → Each (λ w. Under 8191 w) (windows c)) → (c n : ℕ) → Carry (ownItems s windows c n) (windowsSent s windows c n)
+unfolding ownItems windowsSent
+own-sends s windows u c zero = carry-none
+own-sends s windows u c (suc n) = carry-append (go (windows c) (u c)) (own-sends s windows u (c + 1) n)
+  where
+    go : (ws : List (List ℕ)) → Each (λ w. Under 8191 w) ws → Carry (itemsFor s c ws) (windowSent s c ws)
+    go [] h = carry-none
+    go (w ∷ ws) h = channel-sends s c w (h .0)
+
+-- an accepted window's samples are in range
+window-under : (b : Bench) (l : List Post) (c : ℕ) → Each (λ w. Under 8191 w) (windowFor b l c)
+unfolding windowOf samplesOk
+window-under b [] c = tt
+window-under b (p ∷ l) c = go (eqb (p .channel) c && eqb (answerOf b p) 0) refl (window-under b l c)
+  where
+    go : (t : Bool) → eqb (p .channel) c && eqb (answerOf b p) 0 ≡ t → Each (λ w. Under 8191 w) (windowFor b l c) → Each (λ w. Under 8191 w) (cond t (p .window ∷ []) (windowFor b l c))
+    go true e more = (under 8191 (p .window) (has b p (eqb-true (answerOf b p) 0 (and-right (eqb (p .channel) c) _ e)) .samples), tt)
+    go false e more = more
+
+-- the same records carry the same samples
+carry-same : {xs ys : List Item} {a b : List (Item × List ℕ)} → xs ≡ ys → Carry xs a → Carry ys b → a ≡ b
+unfolding among
+carry-same {xs} {ys} {a} {b} e p q = sym (append-nil a) ∙ (sym (p .all [] refl) ∙ (ap (λ (l : List Item). among (l ++ [])) e ∙ (q .all [] refl ∙ append-nil b)))
+
+-- what the close sends are the windows posted
+pub event-samples : (e : EventRun) → rowsSent (e .end .state .settings) (e .end .store) 0 (e .end .state .posted) ≡ windowsSent (settingsIn e) (windowOf (e .answers)) 0 16
+unfolding timeItems
+event-samples e =
+    let b = e .start in
+    let r = run-posts (e .apart) (e .posted) in
+    let s : Settings = settingsIn e in
+    let n : closeNumber (e .end .state) (e .end .store) (length (e .words)) ≡ 0 = sym (e .says .refusal) ∙ e .accepted in
+    let same = ap (λ (t : Bench). closingItems (t .state) (t .store)) (r .0) ∙ own-records b (e .posts) (e .opened) (e .apart) in
+    carry-same same (close-sends (e .end .state) (e .end .store) (length (e .words)) n)
+    (carry-append (carry-bare _ refl (λ xs. refl))
+    (carry-append (carry-append (carry-item (leb 1 (s .times)) _ refl (λ xs. refl)) (carry-item (leb 2 (s .times)) _ refl (λ xs. refl)))
+    (own-sends s (windowFor b (e .posts)) (window-under b (e .posts)) 0 16)))
+    ∙ ap (λ (ns : List (Post × ℕ)). windowsSent s (windowOf ns) 0 16) (sym (r .1))
