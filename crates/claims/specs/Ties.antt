@@ -1,5 +1,5 @@
--- The theorems of the demands suppose of a call what its `..Says` or its equation says. Here each is tied to the code: what a caller learns of a call by the function's own `ensures`
--- (`Learnt`, of the arguments, the answer `r` and the arguments as the call leaves them) is what those theorems suppose. Assumes nothing.
+-- The demands' theorems suppose of a call what `PostSays` says, or that its answer is `nextAt words scan`, and so on. Each is tied here to the code: it is what a caller
+-- learns from the function's own `ensures` (`Reads.Learnt`, of the arguments, the answer `r`, and the arguments as the call leaves them). Assumes nothing.
 use Prim.Native.Nat.{ℕ}
 use mathlib.Core.Path.{_≡_}
 use mathlib.Core.List.{List}

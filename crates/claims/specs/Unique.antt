@@ -1,5 +1,6 @@
--- "show that two results allowed by it are equal": every public function, in the order of docs/STATEMENTS.md, by the statement that the code itself has.
--- No `ensures` is quoted here: `ended` and `Reads.Learnt` come from the function's own proof, so a line of a function whose `ensures` allows two results is refused. Assumes nothing.
+-- "show that two results allowed by it are equal": every public function, a line each, in the order of docs/STATEMENTS.md, over its own statement.
+-- No `ensures` is quoted: `Reads.Learnt`, exported with the function's proof, is what a caller learns from its `ensures`. So the line of a function whose `ensures`
+-- allows two results is refused. Assumes nothing.
 use Prim.Native.Nat.{ℕ}
 use mathlib.Core.Path.{_≡_, refl}
 use mathlib.Core.List.{List}
@@ -43,12 +44,12 @@ use Rattle.lines.proofs as lines
 use Rattle.listing.proofs as listing
 use Rattle.listing.specs.RoomLaws.{one-listing}
 
--- A function's signature is `ended`. Its statement, `Learnt`, is what a caller learns of a call: of the arguments, the answer, and the arguments as the call leaves them
+-- a statement over a function's signature, `ended`: it speaks of the arguments, the answer, and the arguments as the call leaves them
 abbrev pub Statement : Ended → Type 1
 Statement T = (κs : Lfts (T .signature .lifetimes)) → Args (T .signature) κs → Res (T .signature) κs → AtExit T κs → Type 0
 
--- For all arguments `a`: two results that the statement allows are equal. A result is the answer, `r` or `s`, and what is left of all that was lent, `u` or `v`:
--- `Lasts` has a list for each `&mut` and nothing for any other argument; `atExit` is `a` with these lists in place of what was lent
+-- Whatever the arguments `a`, two results that the statement allows are equal. A result is the answer, `r` or `s`, and what is left of all that was lent, `u` or `v`:
+-- `Lasts` holds a list for each `&mut` and nothing for any other argument, and `atExit` is `a` with those lists in place of the lent ones
 abbrev pub Unique : (T : Ended) → Statement T → Type 0
 Unique T Says =
     (κs : Lfts (T .signature .lifetimes)) (a : Args (T .signature) κs) (r s : Res (T .signature) κs) (u v : Lasts T κs a)
