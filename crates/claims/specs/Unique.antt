@@ -1,11 +1,12 @@
 -- "show that two results allowed by it are equal": every public function, in the order of docs/STATEMENTS.md, with the statement that the code has.
 -- A result is the answer and what is left of all that was lent. Assumes nothing.
-use Prim.Native.Nat.{ℕ, _≤_}
+use Prim.Native.Nat.{ℕ, _+_, _-_, _^_, _≤_}
 use mathlib.Core.Path.{_≡_, ap}
-use mathlib.Core.Bool.{Bool}
+use mathlib.Core.Bool.{Bool, true, cond, _&&_}
 use mathlib.Core.List.{List, [], _∷_}
-use lib.Dec.{eqb}
-use Rattle.ground.specs.Splice.{Written}
+use lib.Dec.{eqb, leb, ltb}
+use lib.ListN.{length}
+use Rattle.ground.specs.Splice.{WrittenIf}
 use Rattle.ground.specs.ResultLaws.{one-result, one-writing}
 use Rattle.fields.specs.Word.{Field, fieldAt, putAt, pack, fit}
 use Rattle.fields.specs.Tag.{isDefining, isContinuation}
@@ -34,13 +35,11 @@ use Rattle.settings.specs.Ranges.{settingsOk}
 use Rattle.settings.specs.Refusal.{numberOf}
 use Rattle.settings.specs.Sample.{samplesOk, amp}
 use Rattle.finder.specs.declared.Rule.{Rule}
-use Rattle.finder.specs.Find.{anyOver, ruleNumber, findAll}
+use Rattle.finder.specs.Find.{anyOver, ruleNumber, searchable, findAll}
 use Rattle.finder.specs.Call.{FindSays}
 use Rattle.finder.specs.CallLaws as F
-use Rattle.channel.specs.Channel.{itemIf, commonOf, channelWords}
-use Rattle.channel.specs.Inner.{channelLength}
-use Rattle.event.specs.Event.{rowsOk, eventItems}
-use Rattle.event.specs.Inner.{eventLength}
+use Rattle.channel.specs.Channel.{itemIf, commonOf, channelItems, channelWords}
+use Rattle.event.specs.Event.{lentOk, rowsOk, eventItems}
 use Rattle.writer.specs.declared.State.{State}
 use Rattle.writer.specs.Calls.{SetUpSays, OpenBlockSays, OpenEventSays, PostSays, CloseSays, FinishSays}
 use Rattle.writer.specs.UniqueLaws as W
@@ -75,8 +74,8 @@ pub by-equation : {A : Type 0} (x : A) → Unique (λ (r : A). r ≡ x)
 by-equation x r r′ p q = one-result p q
 
 -- words written from a place on
-pub by-writing : {A : Type 0} (buf : List A) (at : ℕ) (new : List A) → Unique₂ (Written buf at new)
-by-writing buf at new r r′ x x′ p q = one-writing p q
+pub by-writing : {A : Type 0} (good : Bool) (buf : List A) (at : ℕ) (new : List A) → Unique₂ (WrittenIf good buf at new)
+by-writing good buf at new r r′ x x′ p q = one-writing p q
 
 -- bytes put on a page
 abbrev pub Puts : List ℕ → ℕ → List ℕ → ℕ → List ℕ → Type 0
@@ -227,6 +226,9 @@ rule-number-unique rule = by-equation _
 pub any-over-unique : (window : List ℕ) (threshold : ℕ) → Unique (λ r. r ≡ anyOver window threshold)
 any-over-unique window threshold = by-equation _
 
+pub can-search-unique : (samples nsa limit : ℕ) → Unique (λ r. r ≡ searchable samples nsa limit)
+can-search-unique samples nsa limit = by-equation _
+
 pub pulses-of-unique : (window : List ℕ) (threshold nsb nsa limit : ℕ) → Unique (λ r. r ≡ findAll window threshold nsb nsa limit)
 pulses-of-unique window threshold nsb nsa limit = by-equation _
 
@@ -236,27 +238,30 @@ find-unique = F.find-unique
 -- ---- writing
 
 -- channel
-pub put-item-unique : (words : List ℕ) (at : ℕ) (item : Item) → Unique₂ (Written words at (wordOf item ∷ []))
-put-item-unique words at item = by-writing _ _ _
+pub put-item-unique : (words : List ℕ) (at : ℕ) (item : Item) → Unique₂ (WrittenIf true words at (wordOf item ∷ []))
+put-item-unique words at item = by-writing _ _ _ _
 
-pub put-if-unique : (words : List ℕ) (at : ℕ) (on : Bool) (item : Item) → Unique₂ (Written words at (wordsOf (itemIf on item)))
-put-if-unique words at on item = by-writing _ _ _
+pub put-if-unique : (words : List ℕ) (at : ℕ) (on : Bool) (item : Item) → Unique₂ (WrittenIf true words at (wordsOf (itemIf on item)))
+put-if-unique words at on item = by-writing _ _ _ _
 
-pub put-channel-unique : (words : List ℕ) (at : ℕ) (settings : Settings) (threshold channel : ℕ) (row : List ℕ) → Unique₂ (Written words at (channelWords (commonOf settings) threshold channel row))
-put-channel-unique words at settings threshold channel row = by-writing _ _ _
+pub room-short-unique : (room at count : ℕ) → Unique (λ r. r ≡ ltb room (at + count))
+room-short-unique room at count = by-equation _
 
-pub channel-length-unique : (settings : Settings) (threshold : ℕ) (row : List ℕ) → Unique (λ r. r ≡ channelLength (commonOf settings) threshold row)
+pub put-channel-unique : (words : List ℕ) (at : ℕ) (settings : Settings) (threshold channel : ℕ) (row : List ℕ)
+    → Unique₂ (WrittenIf (searchable (length row) (settings .nsa) (settings .limit)) words at (channelWords (commonOf settings) threshold channel row))
+put-channel-unique words at settings threshold channel row = by-writing _ _ _ _
+
+pub channel-length-unique : (settings : Settings) (threshold : ℕ) (row : List ℕ)
+    → Unique (λ r. r ≡ cond (searchable (length row) (settings .nsa) (settings .limit)) (length (channelItems (commonOf settings) threshold 0 row)) 0)
 channel-length-unique settings threshold row = by-equation _
 
 -- event
-pub rows-ok-unique : (settings : Settings) (posted : List Bool) (store : List ℕ) → Unique (λ r. r ≡ rowsOk (settings .nw) store 0 posted)
+pub rows-ok-unique : (settings : Settings) (posted : List Bool) (store : List ℕ) → Unique (λ r. r ≡ (lentOk settings posted store && rowsOk (settings .nw) store 0 posted))
 rows-ok-unique settings posted store = by-equation _
 
-pub put-event-unique : (words : List ℕ) (at : ℕ) (settings : Settings) (number time : ℕ) (posted : List Bool) (store : List ℕ) → Unique₂ (Written words at (wordsOf (eventItems settings number time posted store)))
-put-event-unique words at settings number time posted store = by-writing _ _ _
-
-pub event-length-unique : (settings : Settings) (posted : List Bool) (store : List ℕ) → Unique (λ r. r ≡ eventLength settings posted store)
-event-length-unique settings posted store = by-equation _
+pub put-event-unique : (words : List ℕ) (at : ℕ) (settings : Settings) (number time : ℕ) (posted : List Bool) (store : List ℕ)
+    → Unique₂ (WrittenIf (lentOk settings posted store && leb time (2 ^ 48 - 1)) words at (wordsOf (eventItems settings number time posted store)))
+put-event-unique words at settings number time posted store = by-writing _ _ _ _
 
 -- writer
 pub set-up-unique : (settings : Settings) → Unique (SetUpSays settings)
