@@ -3,12 +3,13 @@
 -- allows two results is refused. Assumes nothing.
 use Prim.Native.Nat.{ℕ}
 use mathlib.Core.Path.{_≡_, refl}
+use mathlib.Core.Bool.{Bool}
 use mathlib.Core.List.{List}
 use contract.Lifetimes.{Lfts}
 use denote.Ref.{now}
 use denote.Triple.Entry.{Args, Res}
 use denote.Triple.Clauses.{Ended, Lasts, AtExit, atExit}
-use Rattle.ground.specs.Splice.{Written}
+use Rattle.ground.specs.Splice.{WrittenIf}
 use Rattle.ground.specs.ResultLaws.{one-result, one-writing}
 use Rattle.fields.proofs as fields
 use Rattle.frame.proofs.block_header.BlockHeader as BlockHeader
@@ -59,8 +60,8 @@ Unique T Says =
 by-equation : {A U : Type 0} {x r s : A} {u : U} → r ≡ x → s ≡ x → (r ≡ s) × (u ≡ u)
 by-equation p q = (one-result p q, refl)
 
--- words written from a place on, where the words are lent first and `rest` is what follows them
-by-writing : {A U : Type 0} {words new x y : List A} {at r s : ℕ} (rest : U) → Written words at new r x → Written words at new s y
+-- words written from a place on where they fit, where the words are lent first and `rest` is what follows them
+by-writing : {A U : Type 0} {good : Bool} {words new x y : List A} {at r s : ℕ} (rest : U) → WrittenIf good words at new r x → WrittenIf good words at new s y
     → (r ≡ s) × (_≡_ {A = List A × U} (x, rest) (y, rest))
 by-writing rest p q = let e = one-writing p q in (e .0, λ i. (e .1 i, rest))
 
@@ -340,6 +341,9 @@ rule-number-unique κs a r s u v p q = by-equation p q
 pub any-over-unique : Unique finder.any_over.ended finder.any_over.Reads.Learnt
 any-over-unique κs a r s u v p q = by-equation p q
 
+pub can-search-unique : Unique finder.can_search.ended finder.can_search.Reads.Learnt
+can-search-unique κs a r s u v p q = by-equation p q
+
 pub pulses-of-unique : Unique finder.pulses_of.ended finder.pulses_of.Reads.Learnt
 pulses-of-unique κs a r s u v p q = by-equation p q
 
@@ -355,6 +359,9 @@ put-item-unique κs a r s u v p q = by-writing (u .1) p q
 pub put-if-unique : Unique channel.put_if.ended channel.put_if.Reads.Learnt
 put-if-unique κs a r s u v p q = by-writing (u .1) p q
 
+pub room-short-unique : Unique channel.room_short.ended channel.room_short.Reads.Learnt
+room-short-unique κs a r s u v p q = by-equation p q
+
 pub put-channel-unique : Unique channel.put_channel.ended channel.put_channel.Reads.Learnt
 put-channel-unique κs a r s u v p q = by-writing (u .1) p q
 
@@ -367,9 +374,6 @@ rows-ok-unique κs a r s u v p q = by-equation p q
 
 pub put-event-unique : Unique event.put_event.ended event.put_event.Reads.Learnt
 put-event-unique κs a r s u v p q = by-writing (u .1) p q
-
-pub event-length-unique : Unique event.event_length.ended event.event_length.Reads.Learnt
-event-length-unique κs a r s u v p q = by-equation p q
 
 -- writer
 pub set-up-unique : Unique writer.set_up.ended writer.set_up.Reads.Learnt

@@ -1,25 +1,21 @@
 -- What the code's own way to make a test or a count comes to. Assumes nothing.
 use Prim.Native.Nat.{ℕ, _+_, _-_, _*_, _^_, _≤_, _<_}
-use mathlib.Core.Path.{_≡_, sym, _∙_}
+use mathlib.Core.Path.{_≡_, refl, ap, _∙_}
 use mathlib.Core.Bool.{Bool, true, false, not, _&&_, cond}
-use mathlib.Core.List.{List}
-use native.Mathlib.Decide.{decLt}
+use mathlib.Core.List.{List, [], _∷_, _++_}
 use native.Mathlib.Nat.{mul-le-mul}
 use native.Mathlib.Numerals.{add-one}
 use native.Mathlib.Omega.{arith}
-use borrow.Author.Tests.{lt-ltb, le-ltb}
-use lib.Dec.{ltb}
-use lib.ListN.{length, drop, getD}
+use borrow.Author.Tests.{lt-ltb, le-ltb, eqb-false}
+use lib.Dec.{eqb, ltb}
+use lib.ListN.{length, take, drop, getD}
 use lib.Seq.{drop-cons}
+use Rattle.ground.specs.Tests.{firstOf}
+use Rattle.ground.specs.TestsLaws.{AllOff, none}
+use Rattle.writer.specs.declared.State.{State}
 use Rattle.writer.specs.State.{noMarks}
-
--- two tests that hold together are one
-pub same-test : (a b m n : ℕ) → (a < b → m < n) → (m < n → a < b) → ltb a b ≡ ltb m n
-same-test a b m n to back =
-    elim (decLt a b) [
-      | yes h ↦ lt-ltb a b h ∙ sym (lt-ltb m n (to h))
-      | no h ↦ (let k : m < n → ⊥ = λ l. h (back l) in le-ltb a b (omega arith) ∙ sym (le-ltb m n (omega arith)))
-    ]
+use Rattle.writer.specs.Calls.{closingItems, closeTable, closeNumber}
+use Rattle.writer.specs.Order.{beforeRoom}
 
 -- one turn of the loop over the marks
 pub noMarks-step : (posted : List Bool) (c : ℕ) → c < length posted → noMarks (drop c posted) ≡ not (getD posted c false) && noMarks (drop (c + 1) posted)
@@ -33,3 +29,37 @@ head-le false = omega arith
 -- the least words of as many events as a field can count do not wrap
 pub words-fit : (closed times : ℕ) → closed < 2 ^ 32 → times < 2 ^ 32 → closed * (1 + times) ≤ (2 ^ 32 - 1) * 2 ^ 32
 words-fit closed times h k = mul-le-mul {n₂ = 2 ^ 32 - 1} {m₂ = 2 ^ 32} (omega arith) (omega arith)
+
+-- ---- a close asks for room last
+
+-- a row behind the others counts only where none of them holds
+early : (rs : List (ℕ × Bool)) (r : ℕ × Bool) → (firstOf rs ≡ 0 → ⊥) → firstOf (rs ++ (r ∷ [])) ≡ firstOf rs
+unfolding firstOf
+early [] r h = absurd (h refl)
+early (x ∷ rs) r h = go (x .1) h (early rs r)
+  where
+    go : (b : Bool) → (cond b (x .0) (firstOf rs) ≡ 0 → ⊥) → ((firstOf rs ≡ 0 → ⊥) → firstOf (rs ++ (r ∷ [])) ≡ firstOf rs)
+        → cond b (x .0) (firstOf (rs ++ (r ∷ []))) ≡ cond b (x .0) (firstOf rs)
+    go true h f = refl
+    go false h f = f h
+
+late : (rs : List (ℕ × Bool)) (r : ℕ × Bool) → AllOff rs → firstOf (rs ++ (r ∷ [])) ≡ cond (r .1) (r .0) 0
+unfolding firstOf
+late [] r o = refl
+late (x ∷ rs) r o = rw (o .0) (late rs r (o .1))
+
+module _ (s : State) (store : List ℕ) (room : ℕ) where
+  pub refused-before : eqb (beforeRoom s store) 0 ≡ false → closeNumber s store room ≡ beforeRoom s store
+  unfolding beforeRoom closeNumber closeTable
+  refused-before h = early (take 4 (closeTable s store 0)) (9, ltb room (s .words + length (closingItems s store))) (eqb-false (beforeRoom s store) 0 h)
+
+  module _ (asked : beforeRoom s store ≡ 0) where
+    behind : closeNumber s store room ≡ cond (ltb room (s .words + length (closingItems s store))) 9 0
+    unfolding beforeRoom closeNumber closeTable
+    behind = late (take 4 (closeTable s store 0)) (9, ltb room (s .words + length (closingItems s store))) (none (take 4 (closeTable s store 0)) refl asked)
+
+    pub close-fits : s .words + length (closingItems s store) ≤ room → closeNumber s store room ≡ 0
+    close-fits h = behind ∙ ap (λ (b : Bool). cond {A = ℕ} b 9 0) (le-ltb _ _ h)
+
+    pub close-short : room < s .words + length (closingItems s store) → closeNumber s store room ≡ 9
+    close-short h = behind ∙ ap (λ (b : Bool). cond {A = ℕ} b 9 0) (lt-ltb _ _ h)

@@ -1,7 +1,12 @@
--- The paper's order of the refusals, over what is wrong with a call. Only the calls' inner functions cite it. Assumes nothing.
+-- The paper's order of the refusals, over what is wrong with a call, and what a close asks first. Only the calls' inner functions cite it. Assumes nothing.
 use Prim.Native.Nat.{ℕ}
 use mathlib.Core.Bool.{cond}
+use mathlib.Core.List.{List}
+use lib.ListN.{take}
+use Rattle.ground.specs.Tests.{firstOf}
+use Rattle.writer.specs.declared.State.{State}
 use Rattle.writer.specs.declared.refuse.Wrong.{Wrong}
+use Rattle.writer.specs.Calls.{closeTable}
 
 -- "Order: 10, 7, 8, 4, 5, 6, 2, 3, 9."
 abbrev pub firstWrong : Wrong → ℕ
@@ -15,3 +20,7 @@ firstWrong w =
     (cond (w .store) 2
     (cond (w .sample) 3
     (cond (w .room) 9 0))))))))
+
+-- all rows of a close's table but the last, the room
+unfoldable pub beforeRoom : State → List ℕ → ℕ
+beforeRoom s store = firstOf (take 4 (closeTable s store 0))

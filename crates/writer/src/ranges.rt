@@ -6,9 +6,6 @@ ghost use Rattle.writer.specs.State.{blockOk, eventOk, wordsOk, noMarks,
 use crate::Phase;
 use crate::State;
 
-// The most words of an event.
-pub(crate) const MOST_EVENT: usize = 12051;
-
 // A block's number and events are within refusal 8's ranges.
 pub(crate) fn block_ok(number: u32, events: u32) -> bool
     ensures { λ r. ⌜ r ≡ blockOk number events ⌝ }
@@ -40,7 +37,7 @@ fn words_ok(parameters: bool, times: u32, closed: u32, words: usize) -> bool
     let head = head_words(parameters);
     let event = 1 + times as usize;
     let events = closed as usize;
-    (head + events * event <= words) & (words <= 2 + events * MOST_EVENT)
+    (head + events * event <= words) & (words <= 2 + events * event::MOST_EVENT)
 }
 
 // No channel is posted.

@@ -1,13 +1,12 @@
 // Which refusal a call is given. Every test is made, whatever the state holds, and the first that holds in the paper's order is the answer.
 ghost use mathlib.Core.Path.{_≡_};
 ghost use mathlib.Core.Bool.{false};
-ghost use Prim.Native.Nat.{_+_, _*_};
+ghost use Prim.Native.Nat.{_*_};
 ghost use lib.Dec.{ltb};
 ghost use lib.ListN.{getD};
 ghost use Rattle.settings.specs.Refusal.{numberOf};
-ghost use Rattle.writer.specs.Calls.{openBlockNumber, openEventNumber, postNumber, closeNumber, finishNumber};
-ghost use Rattle.event.specs.Inner.{Lent, eventLength};
-ghost use Rattle.writer.specs.Order.{firstWrong};
+ghost use Rattle.writer.specs.Calls.{openBlockNumber, openEventNumber, postNumber, finishNumber};
+ghost use Rattle.writer.specs.Order.{firstWrong, beforeRoom};
 use crate::State;
 use crate::put::end_words;
 use crate::ranges::block_ok;
@@ -17,8 +16,8 @@ use crate::ranges::is_block;
 use crate::ranges::is_event;
 use crate::ranges::is_idle;
 use crate::ranges::state_ok;
+use channel::room_short;
 use settings::Refusal;
-use settings::Settings;
 
 // What is wrong with a call, in the paper's order of refusals: 10, 7, 8, 4, 5, 6, 2, 3, 9.
 pub(crate) struct Wrong {
@@ -82,16 +81,6 @@ fn is_posted(posted: &[bool], channel: usize) -> bool
         return posted[channel];
     }
     false
-}
-
-// Fewer than `count` words are left behind those already counted. The difference cannot wrap, whatever a forged state says.
-fn room_short(room: usize, words: usize, count: usize) -> bool
-    ensures { λ r. ⌜ r ≡ ltb room (words + count) ⌝ }
-{
-    if room < words {
-        return true;
-    }
-    room - words < count
 }
 
 pub(crate) fn open_block_check(s: State, room: usize, number: u32, events: u32) -> Refusal
@@ -186,26 +175,9 @@ pub(crate) fn finish_check(s: State, room: usize) -> Refusal
     })
 }
 
-// Fewer words are left than the event takes. Where there is room for the longest event, nothing is counted.
-fn event_short(
-    settings: Settings,
-    posted: &[bool],
-    store: &[u16],
-    room: usize,
-    words: usize,
-) -> bool
-    requires { ⌜ Lent settings (now posted) (now store) ⌝ }
-    ensures { λ r. ⌜ r ≡ ltb room (words + eventLength settings (now (posted .entry)) (now (store .entry))) ⌝ }
-{
-    if !room_short(room, words, crate::ranges::MOST_EVENT) {
-        return false;
-    }
-    room_short(room, words, event::event_length(settings, posted, store))
-}
-
-// The rows are looked at only once the store is known to hold them.
-pub(crate) fn close_check(s: State, store: &[u16], room: usize) -> Refusal
-    ensures { λ r. ⌜ numberOf r ≡ closeNumber s (now (store .entry)) room ⌝ }
+// All that a close asks but the room. The rows are looked at only once the store is known to hold them.
+pub(crate) fn close_check(s: State, store: &[u16]) -> Refusal
+    ensures { λ r. ⌜ numberOf r ≡ beforeRoom s (now (store .entry)) ⌝ }
 {
     let phase = s.phase;
     let settings = s.settings;
@@ -221,9 +193,6 @@ pub(crate) fn close_check(s: State, store: &[u16], room: usize) -> Refusal
     }
     if !event::rows_ok(settings, &posted, store) {
         return Refusal::Sample;
-    }
-    if event_short(settings, &posted, store, room, s.words) {
-        return Refusal::Room;
     }
     Refusal::None
 }

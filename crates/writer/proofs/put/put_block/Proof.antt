@@ -1,12 +1,13 @@
 -- `writer::put::put_block` meets its contract: the header, then the parameters word or nothing. Assumes nothing.
 use mathlib.Core.List.{List, [], _∷_}
-use mathlib.Core.Path.{_≡_, ap, _∙_}
+use mathlib.Core.Path.{_≡_, refl, ap, _∙_}
 use mathlib.Core.Bool.{Bool, true, false, cond}
-use Prim.Native.Nat.{ℕ}
+use Prim.Native.Nat.{ℕ, _+_, _≤_}
 use native.Mathlib.Omega.{arith}
 use borrow.Author.Needs.{needs}
 use lib.ListN.{length}
-use Rattle.ground.specs.WritingLaws.{written-then}
+use Rattle.ground.specs.Splice.{Written}
+use Rattle.ground.specs.WritingLaws.{written-then, written}
 use Rattle.settings.specs.declared.Settings.{Settings}
 use Rattle.settings.specs.RangesLaws.{settings-in-range}
 use Rattle.items.specs.Items.{wordOf, wordsOf}
@@ -26,9 +27,16 @@ items : (s : Settings) (number events : ℕ) (b : Bool) → s .parameters ≡ b 
 unfolding blockItems
 items s number events b e = ap (λ (b : Bool). header s number events ∷ rest s b) e
 
-put-item-requires : tie.Need-put-item-requires
+-- the header has room
+first : (s : Settings) (number events at n : ℕ) → at + length (blockItems s number events) ≤ n → at + 1 ≤ n
 unfolding blockItems
-put-item-requires c κs = omega (arith, c .before .before .pre .1)
+first s number events at n h = omega arith
+
+wrote-header : (c : tie.After-put-item) → let a = c .before .before .before .args in
+    Written (a .words .now) (a .at) (header (a .settings) (a .number) (a .events) ∷ []) (c .put-item .result) (c .put-item .last .0)
+wrote-header c =
+    let s = c .before .before .before in
+    written refl (first (s .args .settings) (s .args .number) (s .args .events) _ _ (s .pre .1)) (c .put-item .ensures)
 
 cast-t13 : tie.Need-cast-t13
 cast-t13 c =
@@ -40,40 +48,33 @@ cast-t14 c =
     let s = c .before .before .before .before .before .before .before .before in
     omega (arith, settings-in-range (s .args .settings) (s .pre .0) .nsa .1)
 
-put-item-requires-2 : tie.Need-put-item-requires-2
-put-item-requires-2 c κs =
-    let then = c .before .before .before in
-    let header = then .before .before .before .put-item .ensures in
-    let s = then .before .before .before .before .before .before in
-    let a = s .args in
-    let two : length (blockItems (a .settings) (a .number) (a .events)) ≡ 2 =
-    block-length (a .settings) (a .number) (a .events) ∙ ap (λ (b : Bool). cond b 2 1) (then .if1 .taken) in
-    omega (arith, s .pre .1, header .place, written-size header (omega (arith, s .pre .1)))
-
 returns : tie.Need-returns
 returns c =
     let then = c .before .before .before .before .before .before in
     let s = then .before .before .before .before .before .before in
     let a = s .args in
+    let before = wrote-header (then .before .before .before) in
+    let two : length (blockItems (a .settings) (a .number) (a .events)) ≡ 2 =
+    block-length (a .settings) (a .number) (a .events) ∙ ap (λ (b : Bool). cond b 2 1) (then .if1 .taken) in
     rw (items (a .settings) (a .number) (a .events) true (then .if1 .taken))
     (written-then (a .words .now) (a .at) (header (a .settings) (a .number) (a .events) ∷ []) _ _ (rest (a .settings) true) _ _
     (omega (arith, s .pre .1))
-    (then .before .before .before .put-item .ensures)
-    (c .before .before .put-item2 .ensures))
+    before
+    (written refl (omega (arith, s .pre .1, two, before .place, written-size before (omega (arith, s .pre .1, two)))) (c .before .before .put-item2 .ensures)))
 
 returns-2 : tie.Need-returns-2
 returns-2 c =
     let a = c .before .before .before .before .before .before .args in
-    rw (items (a .settings) (a .number) (a .events) false (c .if1 .left)) (c .before .before .before .put-item .ensures)
+    rw (items (a .settings) (a .number) (a .events) false (c .if1 .left)) (wrote-header (c .before .before .before))
 
 pub put-block-spec : {M : Type 1} → statement M
 put-block-spec =
     tie.close
     (tie.spec
-    put-item-requires
+    (λ c κs. tt)
     cast-t13
     cast-t14
-    put-item-requires-2
+    (λ c κs. tt)
     (λ c. search needs)
     returns
     (λ c. search needs)

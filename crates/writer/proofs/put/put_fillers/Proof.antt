@@ -1,11 +1,11 @@
 -- `writer::put::put_fillers` meets its contract: what is left to write is as many fillers. Assumes nothing.
 use Prim.Native.Nat.{ℕ, suc, _+_, _-_, _≤_, _<_}
-use mathlib.Core.Path.{_≡_, ap}
+use mathlib.Core.Path.{_≡_, refl, ap}
 use mathlib.Core.List.{List, [], _∷_}
 use native.Mathlib.Omega.{arith}
 use borrow.Author.Needs.{needs}
 use lib.ListN.{length, replicate, length-replicate}
-use Rattle.ground.specs.WritingLaws.{Left, left-all, left-room, left-less, left-none}
+use Rattle.ground.specs.WritingLaws.{Left, left-all, left-room, left-less, left-none, written}
 use Rattle.items.specs.Items.{wordOf, wordsOf}
 use Rattle.items.specs.declared.Item.{Item}
 use Rattle.items.specs.declared.Item.the-variants as I
@@ -38,17 +38,14 @@ next : (c : tie.In-loop Inv-loop μ-loop) → let a = c .before .before .before 
     Left (a .words .now) (a .at) (fillers (a .slot) (a .count)) (c .before .loop .words) (c .before .loop .next) (wordOf (filler (a .slot)) ∷ fillers (a .slot) (c .before .loop .left - 1))
 next c = rw (one _ _ (c .loop-test .taken)) at (c .before .loop .inv)
 
-put-item-requires : tie.Need-put-item-requires Inv-loop μ-loop
-put-item-requires c κs =
-    let a = c .before .before .before .before .args in
-    let room = left-room (a .words .now) (a .at) (fillers (a .slot) (a .count)) (fit (c .before .before .before .before)) _ _ (wordOf (filler (a .slot)) ∷ []) _ (next (c .before)) in
-    omega (arith, room)
-
 loop-again : tie.Need-loop-again Inv-loop μ-loop
 loop-again c =
     let turn = c .before .before .before .before in
     let a = turn .before .before .before .args in
-    left-less (a .words .now) (a .at) (fillers (a .slot) (a .count)) (fit (turn .before .before .before)) _ _ (wordOf (filler (a .slot)) ∷ []) _ _ _ (next turn) (c .before .before .put-item .ensures)
+    let fits = fit (turn .before .before .before) in
+    let all = fillers (a .slot) (a .count) in
+    let room = left-room (a .words .now) (a .at) all fits _ _ (wordOf (filler (a .slot)) ∷ []) _ (next turn) in
+    left-less (a .words .now) (a .at) all fits _ _ (wordOf (filler (a .slot)) ∷ []) _ _ _ (next turn) (written refl room (c .before .before .put-item .ensures))
 
 same-length : tie.Need-same-length Inv-loop μ-loop
 same-length c = c .before .loop .inv .size
@@ -66,7 +63,7 @@ put-fillers-spec =
     Inv-loop
     μ-loop
     (λ c. left-all _ _ _)
-    put-item-requires
+    (λ c κs. tt)
     (λ c. search needs)
     (λ c. search needs)
     loop-again

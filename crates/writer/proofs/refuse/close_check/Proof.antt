@@ -10,10 +10,11 @@ use lib.ListN.{length}
 use Rattle.ground.specs.Tests.{firstOf}
 use Rattle.event.specs.Event.{rowsOk}
 use Rattle.event.specs.Inner.{Lent}
-use Rattle.event.specs.EventLaws.{length-event}
+use Rattle.event.specs.EventLaws.{lent-enough}
 use Rattle.writer.specs.State.{stateOk, isEvent}
 use Rattle.writer.specs.StateLaws.{state-settings}
-use Rattle.writer.specs.Calls.{closeTable, closeNumber}
+use Rattle.writer.specs.Calls.{closeTable}
+use Rattle.writer.specs.Order.{beforeRoom}
 use Rattle.writer.proofs.refuse.close_check.Statement.{statement}
 use Rattle.writer.proofs.refuse.close_check.Tie as tie
 
@@ -28,71 +29,53 @@ event c = sym (c .before .is-event .ensures) ∙ not-false _ (c .if2 .left)
 wide : (c : tie.Else3) → ltb (length (c .before .before .before .before .before .before .before .before .before .args .store .now)) (16 * c .before .before .before .before .before .before .before .before .before .args .s .settings .nw) ≡ false
 wide c = sym (c .before .store-short .ensures) ∙ c .if3 .left
 
-clean : (c : tie.Else4) → rowsOk (c .before .before .before .before .before .before .before .before .before .before .before .before .args .s .settings .nw) (c .before .before .before .before .before .before .before .before .before .before .before .before .args .store .now) 0 (c .before .before .before .before .before .before .before .before .before .before .before .before .args .s .posted) ≡ true
-clean c = sym (c .before .rows-ok .ensures) ∙ not-false _ (c .if4 .left)
-
 -- the store holds the rows of a state in range, and the state has sixteen marks
 lent : (c : tie.Else3) → Lent (c .before .before .before .before .before .before .before .before .before .args .s .settings) (c .before .before .before .before .before .before .before .before .before .args .s .posted) (c .before .before .before .before .before .before .before .before .before .args .store .now)
 lent c =
     let marks : length (c .before .before .before .before .before .before .before .before .before .args .s .posted) ≡ 16 = search needs in
     record { settings = state-settings _ (good (c .before .before .before .before)); marks = omega (arith, marks); rows = ltb-false _ _ (wide c) }
 
+-- so the rows are looked at
+tested : (c : tie.After-rows-ok) → c .rows-ok .result ≡ rowsOk (c .before .before .before .before .before .before .before .before .before .before .before .args .s .settings .nw) (c .before .before .before .before .before .before .before .before .before .before .before .args .store .now) 0 (c .before .before .before .before .before .before .before .before .before .before .before .args .s .posted)
+tested c = rw (lent-enough _ _ _ (lent (c .before .before))) at (c .rows-ok .ensures)
+
+clean : (c : tie.Else4) → rowsOk (c .before .before .before .before .before .before .before .before .before .before .before .before .args .s .settings .nw) (c .before .before .before .before .before .before .before .before .before .before .before .before .args .store .now) 0 (c .before .before .before .before .before .before .before .before .before .before .before .before .args .s .posted) ≡ true
+clean c = sym (tested (c .before)) ∙ not-false _ (c .if4 .left)
+
 -- ---- the rows
 
 returns : tie.Need-returns
-unfolding closeNumber closeTable firstOf
+unfolding beforeRoom closeTable firstOf
 returns c =
     let bad : stateOk (c .before .before .before .before .before .args .s) ≡ false = sym (c .before .state-ok .ensures) ∙ not-true _ (c .if1 .taken) in
     rw bad
 
 returns-2 : tie.Need-returns-2
-unfolding closeNumber closeTable firstOf
+unfolding beforeRoom closeTable firstOf
 returns-2 c =
     let no : isEvent (c .before .before .before .before .before .before .before .args .s .phase) ≡ false = sym (c .before .is-event .ensures) ∙ not-true _ (c .if2 .taken) in
     rw (good (c .before .before), no)
 
 returns-3 : tie.Need-returns-3
-unfolding closeNumber closeTable firstOf
+unfolding beforeRoom closeTable firstOf
 returns-3 c =
     let short : ltb (length (c .before .before .before .before .before .before .before .before .before .args .store .now)) (16 * c .before .before .before .before .before .before .before .before .before .args .s .settings .nw) ≡ true = sym (c .before .store-short .ensures) ∙ c .if3 .taken in
     rw (good (c .before .before .before .before), event (c .before .before), short)
 
-rows-ok-requires : tie.Need-rows-ok-requires
-rows-ok-requires c κs = lent (c .before)
-
 returns-4 : tie.Need-returns-4
-unfolding closeNumber closeTable firstOf
+unfolding beforeRoom closeTable firstOf
 returns-4 c =
-    let bad : rowsOk (c .before .before .before .before .before .before .before .before .before .before .before .before .args .s .settings .nw) (c .before .before .before .before .before .before .before .before .before .before .before .before .args .store .now) 0 (c .before .before .before .before .before .before .before .before .before .before .before .before .args .s .posted) ≡ false = sym (c .before .rows-ok .ensures) ∙ not-true _ (c .if4 .taken) in
+    let bad : rowsOk (c .before .before .before .before .before .before .before .before .before .before .before .before .args .s .settings .nw) (c .before .before .before .before .before .before .before .before .before .before .before .before .args .store .now) 0 (c .before .before .before .before .before .before .before .before .before .before .before .before .args .s .posted) ≡ false = sym (tested (c .before)) ∙ not-true _ (c .if4 .taken) in
     rw (good (c .before .before .before .before .before .before .before), event (c .before .before .before .before .before), wide (c .before .before .before), bad)
 
-event-short-requires : tie.Need-event-short-requires
-event-short-requires c κs = lent (c .before .before .before .before)
-
 returns-5 : tie.Need-returns-5
-unfolding closeNumber closeTable firstOf
+unfolding beforeRoom closeTable firstOf
 returns-5 c =
-    let a = c .before .before .before .before .before .before .before .before .before .before .before .before .before .before .before .args in
     rw (
-      good (c .before .before .before .before .before .before .before .before .before .before),
-      event (c .before .before .before .before .before .before .before .before),
-      wide (c .before .before .before .before .before .before),
-      clean (c .before .before .before),
-      length-event (a .s .settings) (a .s .event) (a .s .time) (a .s .posted) (a .store .now) (state-settings _ (good (c .before .before .before .before .before .before .before .before .before .before))),
-      sym (c .before .event-short .ensures) ∙ c .if5 .taken,
-    )
-
-returns-6 : tie.Need-returns-6
-unfolding closeNumber closeTable firstOf
-returns-6 c =
-    let a = c .before .before .before .before .before .before .before .before .before .before .before .before .before .before .before .args in
-    rw (
-      good (c .before .before .before .before .before .before .before .before .before .before),
-      event (c .before .before .before .before .before .before .before .before),
-      wide (c .before .before .before .before .before .before),
-      clean (c .before .before .before),
-      length-event (a .s .settings) (a .s .event) (a .s .time) (a .s .posted) (a .store .now) (state-settings _ (good (c .before .before .before .before .before .before .before .before .before .before))),
-      sym (c .before .event-short .ensures) ∙ c .if5 .left,
+      good (c .before .before .before .before .before .before .before),
+      event (c .before .before .before .before .before),
+      wide (c .before .before .before),
+      clean c,
     )
 
 pub close-check-spec : {M : Type 1} → statement M
@@ -106,9 +89,6 @@ close-check-spec =
     (λ c κs. search needs)
     returns-3
     (λ c. search needs)
-    rows-ok-requires
+    (λ c κs. tt)
     returns-4
-    (λ c. search needs)
-    event-short-requires
-    returns-5
-    returns-6)
+    returns-5)

@@ -1,14 +1,14 @@
 -- `writer::refuse::store_short` meets its contract: floor (room / 16) < nw is room < 16 x nw. Assumes nothing.
-use Prim.Native.Nat.{_*_, _/_}
+use Prim.Native.Nat.{suc, _*_, _/_}
 use native.Mathlib.Omega.{arith}
-use Rattle.writer.specs.CodeLaws.{same-test}
+use Rattle.ground.specs.TestsLaws.{same-test}
 use Rattle.writer.proofs.refuse.store_short.Statement.{statement}
 use Rattle.writer.proofs.refuse.store_short.Tie as tie
 
 returns : tie.Need-returns
 returns c =
     let a = c .args in
-    same-test (a .room / 16) (a .nw) (a .room) (16 * a .nw) (λ h. omega arith) (λ h. omega arith)
+    same-test (suc (a .room / 16)) (a .nw) (suc (a .room)) (16 * a .nw) (λ h. omega arith) (λ h. omega arith)
 
 pub store-short-spec : {M : Type 1} → statement M
 store-short-spec = tie.close (tie.spec returns)
