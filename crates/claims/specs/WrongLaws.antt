@@ -164,14 +164,13 @@ check-wrong bytes n p some small = (there (eqb (length bytes % 4) 0) refl, back)
 
 -- how a run ends, by what is asked where it stops
 stop-says : (s : Scan) (ws : List ℕ) → let t = stopOf s ws in (readFrom s ws) .out ≡ outOf (firstOf (questions (t .0) (t .1))) (t .0 .place)
-unfolding readFrom endNumber stopOf
+unfolding readFrom endNumber firstOf stopOf
 stop-says s [] = end-by s
 stop-says s (w ∷ ws) = go (at s w ws) (stop-says (onto s w) ws)
   where
     go : At s w ws → (let t = stopOf (onto s w) ws in (readFrom (onto s w) ws) .out ≡ outOf (firstOf (questions (t .0) (t .1))) (t .0 .place))
         → let t = stopOf s (w ∷ ws) in (readFrom s (w ∷ ws)) .out ≡ outOf (firstOf (questions (t .0) (t .1))) (t .0 .place)
-    unfolding firstOf
-    go (ends h e) r = ap (λ (x : Reading). x .out) e ∙ rw h
+    go (ends h e) r = ap (λ (x : Reading). x .out) e ∙ rw h (rw h)
     go (stops n f z e) r =
         let i : firstOf (questions s (w ∷ ws)) ≡ n = is-first f in
         ap (λ (x : Reading). x .out) e ∙ rw (i, ne-eqb n 0 z) (rw (i, ne-eqb n 0 z))
