@@ -57,7 +57,7 @@ fn posted_ok(settings: Settings, posted: &[bool], store: &[u16]) -> bool
     good
 }
 
-// What is lent is enough, and so are the posted rows.
+// What is lent is enough for an event, and no posted row has a sample over the greatest.
 pub fn rows_ok(settings: Settings, posted: &[bool], store: &[u16]) -> bool
     ensures { λ r. ⌜ r ≡ (lentOk settings (now (posted .entry)) (now (store .entry)) && rowsOk (settings .nw) (now (store .entry)) 0 (now (posted .entry))) ⌝ }
 {
