@@ -8,7 +8,7 @@ use native.Mathlib.Nat.{le-trans, mul-le-mul-right}
 use lib.Dec.{eqb}
 use lib.ListN.{length}
 use Rattle.settings.specs.declared.Settings.{Settings}
-use Rattle.settings.specs.Ranges.{mostSamples}
+use Rattle.limits.specs.Limits.{mostSamples}
 use Rattle.finder.specs.declared.Pulse.{Pulse}
 use Rattle.finder.specs.Find.{anyOver, searchable}
 use Rattle.finder.specs.FindLaws.{searched}

@@ -7,7 +7,7 @@ use lib.Dec.{eqb, ltb}
 use Rattle.settings.specs.declared.Settings.{Settings}
 use Rattle.finder.specs.declared.Pulse.{Pulse}
 use Rattle.finder.specs.Find.{anyOver, pulsesFrom}
-use Rattle.items.specs.Items.{wordsOf}
+use Rattle.items.specs.Items.{wordsOf, itemIf}
 use Rattle.items.specs.declared.Item.{Item}
 use Rattle.items.specs.declared.Item.the-variants as I
 use Rattle.channel.specs.declared.Parts.{Parts}
@@ -72,9 +72,6 @@ rowOfMode (r ∷ rs) mode = cond (eqb mode (r .0)) (r .1) (rowOfMode rs mode)
 
 unfoldable pub partsOf : ℕ → Parts
 partsOf mode = rowOfMode modeTable mode
-
-abbrev pub itemIf : Bool → Item → List Item
-itemIf on x = cond on (x ∷ []) []
 
 -- one pulse, the i-th
 unfoldable pub pulseItems : Parts → ℕ → List ℕ → ℕ → Pulse → List Item

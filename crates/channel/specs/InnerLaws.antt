@@ -8,7 +8,7 @@ use native.Mathlib.Numerals.{add-one}
 use lib.ListN.{length, getD, drop, replicate, drop-of-length-le, length-append, length-take, length-drop}
 use lib.Seq.{drop-cons, getD-take, length-take-le, sets-eq}
 use Rattle.ground.specs.TestsLaws.{or-none}
-use Rattle.settings.specs.Ranges.{mostSamples}
+use Rattle.limits.specs.Limits.{mostSamples}
 use Rattle.settings.specs.declared.Settings.{Settings}
 use Rattle.finder.specs.declared.Pulse.{Pulse}
 use Rattle.finder.specs.declared.Pulses.{Pulses}

@@ -5,7 +5,7 @@ use finder::Pulses;
 ghost use mathlib.Core.Path.{_≡_};
 ghost use mathlib.Core.Bool.{cond};
 ghost use Prim.Native.Nat.{_+_, _-_, _≤_};
-ghost use Rattle.settings.specs.Ranges.{mostSamples};
+ghost use Rattle.limits.specs.Limits.{mostSamples};
 ghost use Rattle.channel.specs.Inner.{listed, InWindow, pairsFor, oneIf, pulseLength, pulsesLength};
 
 fn one_if(on: bool) -> usize

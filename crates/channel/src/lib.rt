@@ -1,11 +1,12 @@
 // The words of one channel, put into a lent buffer.
 mod count;
 mod measure;
-mod samples;
+mod pairs;
 
 use finder::Pulse;
 use finder::Pulses;
-use items::Item;
+use items::put::put_if;
+use items::put::room_short;
 use settings::Settings;
 ghost use mathlib.Core.Path.{_≡_};
 ghost use mathlib.Core.Bool.{true, cond, _&&_};
@@ -14,11 +15,11 @@ ghost use Prim.Native.Nat.{_+_, _≤_};
 ghost use lib.Dec.{ltb};
 ghost use lib.ListN.{length};
 ghost use Rattle.ground.specs.Splice.{Written, WrittenIf};
-ghost use Rattle.settings.specs.Ranges.{mostSamples};
+ghost use Rattle.limits.specs.Limits.{mostSamples};
 ghost use Rattle.finder.specs.Find.{anyOver, searchable, findAll};
 ghost use Rattle.finder.specs.RangeLaws.{PulseFits};
 ghost use Rattle.items.specs.Items.{wordOf, wordsOf};
-ghost use Rattle.channel.specs.Channel.{windowItems, rawItems, partsOf, itemIf, pulseItems, pulsesItems, commonOf, channelItems, channelWords};
+ghost use Rattle.channel.specs.Channel.{windowItems, rawItems, partsOf, pulseItems, pulsesItems, commonOf, channelItems, channelWords};
 ghost use Rattle.channel.specs.Inner.{listed, InWindow, limitFor, channelLength};
 
 // The most words of a channel.
@@ -62,35 +63,6 @@ fn parts_of(mode: u32) -> Parts
     }
 }
 
-// Every writer has this contract: its words from place `at`, all else as it was; it answers the next place. One that is public may be lent anything:
-// what has no room is not written, and the place stays.
-pub fn put_item(words: &mut [u32], at: usize, item: Item) -> usize
-    ensures { λ r. ⌜ WrittenIf true (now (words .entry)) at (wordOf item ∷ []) r (now (words .exit)) ⌝ }
-{
-    if at < words.len() {
-        words[at] = item.build();
-        return at + 1;
-    }
-    at
-}
-
-// The record where it is wanted, and nothing where it is not.
-pub fn put_if(words: &mut [u32], at: usize, on: bool, item: Item) -> usize
-    ensures { λ r. ⌜ WrittenIf true (now (words .entry)) at (wordsOf (itemIf on item)) r (now (words .exit)) ⌝ }
-{
-    if on { put_item(words, at, item) } else { at }
-}
-
-// Fewer than `count` words are left behind place `at`. The difference cannot wrap, whatever the place.
-pub fn room_short(room: usize, at: usize, count: usize) -> bool
-    ensures { λ r. ⌜ r ≡ ltb room (at + count) ⌝ }
-{
-    if room < at {
-        return true;
-    }
-    room - at < count
-}
-
 // A pulse's data set where the mode writes it.
 fn put_raw_if(
     words: &mut [u32],
@@ -106,7 +78,7 @@ fn put_raw_if(
     ensures { λ r. ⌜ Written (now (words .entry)) at (wordsOf (cond on (rawItems channel (now (row .entry)) i pulse) [])) r (now (words .exit)) ⌝ }
 {
     if on {
-        samples::put_raw(words, at, channel, row, i, pulse)
+        pairs::put_raw(words, at, channel, row, i, pulse)
     } else {
         at
     }
@@ -177,7 +149,7 @@ fn put_window_if(words: &mut [u32], at: usize, on: bool, channel: u32, row: &[u1
     ensures { λ r. ⌜ Written (now (words .entry)) at (wordsOf (cond on (windowItems channel (now (row .entry))) [])) r (now (words .exit)) ⌝ }
 {
     if on {
-        samples::put_window(words, at, channel, row)
+        pairs::put_window(words, at, channel, row)
     } else {
         at
     }

@@ -8,7 +8,7 @@ ghost use mathlib.Core.Path.{_≡_};
 ghost use mathlib.Core.Bool.{cond};
 ghost use Prim.Native.Nat.{_≤_, min};
 ghost use lib.Dec.{ltb};
-ghost use Rattle.settings.specs.Ranges.{mostSamples};
+ghost use Rattle.limits.specs.Limits.{mostSamples};
 ghost use Rattle.channel.specs.Channel.{integralItem, timeItem, pedestalItem};
 
 fn at_most(x: u32, most: u32) -> u32

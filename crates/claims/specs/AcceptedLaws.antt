@@ -9,7 +9,7 @@ use lib.Dec.{eqb, leb, ltb}
 use Rattle.ground.specs.TestsLaws.{or-none}
 use Rattle.fields.specs.Word.{read}
 use Rattle.fields.specs.WordLaws.{field-lt}
-use Rattle.frame.specs.Words as W
+use Rattle.framing.specs.Words as W
 use Rattle.raw.specs.Words as R
 use Rattle.measures.specs.Words as M
 use Rattle.items.specs.Items.{fits, formOf, itemFrom, fixedIn, bitOf, typeOf}

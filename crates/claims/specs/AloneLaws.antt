@@ -15,7 +15,7 @@ use Rattle.fields.specs.Tag.{isContinuation}
 use Rattle.settings.specs.declared.Settings.{Settings}
 use Rattle.finder.specs.declared.Pulse.{Pulse}
 use Rattle.finder.specs.Find.{anyOver}
-use Rattle.frame.specs.Words as W
+use Rattle.framing.specs.Words as W
 use Rattle.raw.specs.declared.pair.SamplePair.{SamplePair}
 use Rattle.raw.specs.Words as R
 use Rattle.measures.specs.Words as M

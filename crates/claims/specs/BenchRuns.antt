@@ -11,10 +11,10 @@ use Rattle.ground.specs.Tests.{allLe, firstOf}
 use Rattle.fields.specs.Word.{fieldAt}
 use Rattle.settings.specs.declared.Settings.{Settings}
 use Rattle.settings.specs.Ranges.{thresholdsOk, ranges, settingsOk}
-use Rattle.settings.specs.Sample.{samplesOk, amp}
+use Rattle.samples.specs.Sample.{samplesOk, amp}
 use Rattle.finder.specs.Find.{ampAt, over, firstOver, starts, nextTc, tcFrom, integral, overIn, early, vmin, falls, firstFall, vmid, atMost, n1, fineOf, edgeTime, afterFall, timeAt, pulseAt, pulsesFrom}
 use Rattle.finder.specs.Call.{findTable, findNumber, channelPulses, foundPulses}
-use Rattle.frame.specs.Words.{blockHeader, parameters, eventHeader, triggerTime, triggerTimeHigh, trailer, filler, blockHeaderOf, blockHeaderFixed, blockHeaderWithin, parametersOf, parametersFixed, trailerOf, eventHeaderOf, triggerTimeOf, triggerTimeHighOf, triggerTimeHighFixed, fillerOf}
+use Rattle.framing.specs.Words.{blockHeader, parameters, eventHeader, triggerTime, triggerTimeHigh, trailer, filler, blockHeaderOf, blockHeaderFixed, blockHeaderWithin, parametersOf, parametersFixed, trailerOf, eventHeaderOf, triggerTimeOf, triggerTimeHighOf, triggerTimeHighFixed, fillerOf}
 use Rattle.measures.specs.Words as M
 use Rattle.items.specs.Items.{wordOf}
 use Rattle.reader.specs.Reader.{Whole, startOf, formAt, atLimit, refusalOf, onward, after, stepAt, judgeAt, endOf, Reading, readFrom}

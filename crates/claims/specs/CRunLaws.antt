@@ -6,7 +6,7 @@ use mathlib.Core.List.{List, [], _∷_, _++_}
 use native.Mathlib.Omega.{arith}
 use lib.ListN.{length, getD, take, drop}
 use Rattle.ground.specs.Order.{Perm}
-use Rattle.settings.specs.Refusal.{numberOf}
+use Rattle.refusals.specs.Refusal.{numberOf}
 use Rattle.items.specs.declared.Item.{Item}
 use Rattle.channel.specs.Channel.{commonOf, channelWords}
 use Rattle.reader.specs.Reader.{startOf}

@@ -11,7 +11,7 @@ use Rattle.ground.specs.TestsLaws.{and-left, and-right}
 use Rattle.fields.specs.Word.{read}
 use Rattle.fields.specs.WordLaws.{field-lt}
 use Rattle.fields.specs.Tag.{isDefining}
-use Rattle.frame.specs.declared.filler.Filler.{Filler}
+use Rattle.framing.specs.declared.filler.Filler.{Filler}
 use Rattle.items.specs.declared.Form.the-variants as F
 use Rattle.items.specs.declared.Item.{Item}
 use Rattle.items.specs.declared.Item.the-variants as I

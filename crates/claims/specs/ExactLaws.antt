@@ -9,7 +9,7 @@ use native.Mathlib.Omega.{arith}
 use lib.ListN.{length, take, drop, take-append-drop}
 use lib.Seq.{length-take-le, take-length}
 use Rattle.fields.specs.Word.{fieldAt, read}
-use Rattle.frame.specs.Words.{emptyOf, fillerOf}
+use Rattle.framing.specs.Words.{emptyOf, fillerOf}
 use Rattle.items.specs.Items.{wordOf, fits, formOf, cleanOf}
 use Rattle.items.specs.declared.Item.{Item}
 use Rattle.items.specs.declared.Item.the-variants as I

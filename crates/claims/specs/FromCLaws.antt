@@ -9,10 +9,10 @@ use lib.Dec.{eqb, leb, ltb}
 use lib.ListN.{length, getD}
 use Rattle.ground.specs.Tests.{firstOf, this-row}
 use Rattle.ground.specs.TestsLaws.{and-left, and-right, numbered}
-use Rattle.settings.specs.declared.Refusal.{Refusal}
-use Rattle.settings.specs.declared.Refusal.the-variants as F
+use Rattle.refusals.specs.declared.Refusal.{Refusal}
+use Rattle.refusals.specs.declared.Refusal.the-variants as F
 use Rattle.settings.specs.Ranges.{settingsOk}
-use Rattle.settings.specs.Refusal.{numberOf}
+use Rattle.refusals.specs.Refusal.{numberOf}
 use Rattle.finder.specs.Find.{packed}
 use Rattle.finder.specs.Call.{findTable, findNumber, foundPulses}
 use Rattle.finder.specs.RulesLaws.{find-says}

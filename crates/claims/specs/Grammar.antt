@@ -6,14 +6,14 @@ use mathlib.Core.Bool.{true, false}
 use mathlib.Core.List.{List, [], _∷_, _++_, map}
 use lib.ListN.{length, take, drop}
 use Rattle.fields.specs.Tag.{isDefining}
-use Rattle.frame.specs.declared.block_header.BlockHeader.{BlockHeader}
-use Rattle.frame.specs.declared.parameters.Parameters.{Parameters}
-use Rattle.frame.specs.declared.trailer.BlockTrailer.{BlockTrailer}
-use Rattle.frame.specs.declared.event_header.EventHeader.{EventHeader}
-use Rattle.frame.specs.declared.trigger_time.TriggerTime.{TriggerTime}
-use Rattle.frame.specs.declared.trigger_time_high.TriggerTimeHigh.{TriggerTimeHigh}
-use Rattle.frame.specs.declared.empty.ModuleEmpty.{ModuleEmpty}
-use Rattle.frame.specs.declared.filler.Filler.{Filler}
+use Rattle.framing.specs.declared.block_header.BlockHeader.{BlockHeader}
+use Rattle.framing.specs.declared.parameters.Parameters.{Parameters}
+use Rattle.framing.specs.declared.trailer.BlockTrailer.{BlockTrailer}
+use Rattle.framing.specs.declared.event_header.EventHeader.{EventHeader}
+use Rattle.framing.specs.declared.trigger_time.TriggerTime.{TriggerTime}
+use Rattle.framing.specs.declared.trigger_time_high.TriggerTimeHigh.{TriggerTimeHigh}
+use Rattle.framing.specs.declared.empty.ModuleEmpty.{ModuleEmpty}
+use Rattle.framing.specs.declared.filler.Filler.{Filler}
 use Rattle.raw.specs.declared.window.WindowRaw.{WindowRaw}
 use Rattle.raw.specs.declared.pulse_raw.PulseRaw.{PulseRaw}
 use Rattle.raw.specs.declared.pair.SamplePair.{SamplePair}

@@ -8,11 +8,11 @@ use borrow.Author.Tests.{le-leb, lt-leb, lt-ltb, leb-true, eq-eqb, ne-eqb}
 use lib.Dec.{eqb, leb}
 use lib.ListN.{length, length-append}
 use Rattle.ground.specs.TestsLaws.{and-right}
-use Rattle.frame.specs.declared.block_header.BlockHeader.{BlockHeader}
-use Rattle.frame.specs.declared.trailer.BlockTrailer.{BlockTrailer}
-use Rattle.frame.specs.declared.filler.Filler.{Filler}
+use Rattle.framing.specs.declared.block_header.BlockHeader.{BlockHeader}
+use Rattle.framing.specs.declared.trailer.BlockTrailer.{BlockTrailer}
+use Rattle.framing.specs.declared.filler.Filler.{Filler}
 use Rattle.raw.specs.declared.pair.SamplePair.{SamplePair}
-use Rattle.frame.specs.Words as W
+use Rattle.framing.specs.Words as W
 use Rattle.raw.specs.Words as R
 use Rattle.items.specs.Items.{fits, formOf, bitOf, typeOf}
 use Rattle.items.specs.declared.Form.the-variants as F

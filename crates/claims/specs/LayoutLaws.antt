@@ -11,8 +11,8 @@ use Rattle.ground.specs.Tests.{firstOf}
 use Rattle.fields.specs.Word.{Field, read, pack, fit}
 use Rattle.fields.specs.Tag.{defining, continuation}
 use Rattle.fields.specs.WordLaws.{tiles, taken, true-T, field-lt}
-use Rattle.frame.specs.Words as W
-use Rattle.frame.specs.WordsLaws.{blockHeader-there, parameters-there, trailer-there, eventHeader-there, triggerTime-there, triggerTimeHigh-there, empty-there, filler-there}
+use Rattle.framing.specs.Words as W
+use Rattle.framing.specs.WordsLaws.{blockHeader-there, parameters-there, trailer-there, eventHeader-there, triggerTime-there, triggerTimeHigh-there, empty-there, filler-there}
 use Rattle.raw.specs.Words as R
 use Rattle.raw.specs.WordsLaws.{window-there, pulseRaw-there, pair-there}
 use Rattle.measures.specs.Words as M

@@ -11,7 +11,7 @@ use Rattle.ground.specs.TestsLaws.{or-none}
 use Rattle.fields.specs.Word.{read}
 use Rattle.fields.specs.WordLaws.{field-lt}
 use Rattle.fields.specs.Tag.{isDefining, isContinuation}
-use Rattle.frame.specs.WordsLaws.{blockHeader-back, parameters-back, trailer-back, eventHeader-back, triggerTime-back, triggerTimeHigh-back, empty-back, filler-back}
+use Rattle.framing.specs.WordsLaws.{blockHeader-back, parameters-back, trailer-back, eventHeader-back, triggerTime-back, triggerTimeHigh-back, empty-back, filler-back}
 use Rattle.raw.specs.WordsLaws.{window-back, pulseRaw-back, pair-back}
 use Rattle.measures.specs.WordsLaws.{integral-back, time-back, pedestal-back}
 use Rattle.items.specs.Items.{wordOf, formOf, itemFrom, fixedIn, cleanOf, bitOf, typeOf}

@@ -12,7 +12,7 @@ use Rattle.ground.specs.Order.{Perm, perm-nil, perm-cons, perm-swap, perm-trans
 use Rattle.ground.specs.OrderLaws.{pairwise-perm, steps-perm}
 use Rattle.ground.specs.Splice.{splice}
 use Rattle.ground.specs.SpliceLaws.{length-splice, splice-comm}
-use Rattle.settings.specs.Refusal.{numberOf}
+use Rattle.refusals.specs.Refusal.{numberOf}
 use Rattle.writer.specs.declared.Phase.{Phase}
 use Rattle.writer.specs.declared.Phase.the-variants as P
 use Rattle.writer.specs.declared.State.{State}

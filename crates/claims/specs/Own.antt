@@ -10,7 +10,7 @@ use Rattle.ground.specs.Tests.{oneOf}
 use Rattle.fields.specs.Word.{read}
 use Rattle.fields.specs.Tag.{isContinuation}
 use Rattle.settings.specs.declared.Settings.{Settings}
-use Rattle.settings.specs.Refusal.{numberOf}
+use Rattle.refusals.specs.Refusal.{numberOf}
 use Rattle.writer.specs.declared.State.{State}
 use Rattle.writer.specs.declared.Answer.{Answer}
 use Rattle.writer.specs.Calls.{OpenEventSays, CloseSays}

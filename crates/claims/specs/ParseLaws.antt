@@ -8,12 +8,12 @@ use borrow.Author.Tests.{leb-true, leb-false, eqb-true, eqb-false, ne-eqb, not-f
 use lib.Dec.{eqb, leb, ltb}
 use lib.ListN.{length, length-append}
 use Rattle.ground.specs.TestsLaws.{and-left, and-right, or-none}
-use Rattle.frame.specs.declared.block_header.BlockHeader.{BlockHeader}
-use Rattle.frame.specs.declared.trailer.BlockTrailer.{BlockTrailer}
-use Rattle.frame.specs.declared.event_header.EventHeader.{EventHeader}
-use Rattle.frame.specs.declared.trigger_time.TriggerTime.{TriggerTime}
-use Rattle.frame.specs.declared.filler.Filler.{Filler}
-use Rattle.frame.specs.Words as W
+use Rattle.framing.specs.declared.block_header.BlockHeader.{BlockHeader}
+use Rattle.framing.specs.declared.trailer.BlockTrailer.{BlockTrailer}
+use Rattle.framing.specs.declared.event_header.EventHeader.{EventHeader}
+use Rattle.framing.specs.declared.trigger_time.TriggerTime.{TriggerTime}
+use Rattle.framing.specs.declared.filler.Filler.{Filler}
+use Rattle.framing.specs.Words as W
 use Rattle.raw.specs.declared.pair.SamplePair.{SamplePair}
 use Rattle.raw.specs.Words as R
 use Rattle.items.specs.Items.{fits}

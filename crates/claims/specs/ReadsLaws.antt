@@ -7,8 +7,8 @@ use native.Mathlib.Omega.{arith}
 use borrow.Author.Tests.{le-leb}
 use lib.ListN.{length, take, drop, length-append, length-drop, length-map}
 use lib.Seq.{drop-drop}
-use Rattle.settings.specs.Refusal.{numberOf}
-use Rattle.frame.specs.Words.{empty, filler}
+use Rattle.refusals.specs.Refusal.{numberOf}
+use Rattle.framing.specs.Words.{empty, filler}
 use Rattle.raw.specs.declared.pair.SamplePair.{SamplePair}
 use Rattle.items.specs.Items.{wordOf, wordsOf, formOf, cleanOf}
 use Rattle.items.specs.declared.Item.{Item}

@@ -14,10 +14,10 @@ use Rattle.ground.specs.SpliceLaws.{take-splice, length-splice}
 use Rattle.settings.specs.declared.Settings.{Settings}
 use Rattle.settings.specs.Ranges.{settingsOk}
 use Rattle.settings.specs.RangesLaws.{InRange, settings-in-range}
-use Rattle.settings.specs.Refusal.{numberOf}
-use Rattle.frame.specs.declared.filler.Filler.{Filler}
-use Rattle.frame.specs.declared.parameters.Parameters.{Parameters}
-use Rattle.frame.specs.Words as W
+use Rattle.refusals.specs.Refusal.{numberOf}
+use Rattle.framing.specs.declared.filler.Filler.{Filler}
+use Rattle.framing.specs.declared.parameters.Parameters.{Parameters}
+use Rattle.framing.specs.Words as W
 use Rattle.items.specs.Items.{wordsOf, fits}
 use Rattle.items.specs.ItemsLaws.{length-words, words-append}
 use Rattle.items.specs.declared.Item.{Item}

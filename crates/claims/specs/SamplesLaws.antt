@@ -9,14 +9,14 @@ use lib.ListN.{length, getD, drop, replicate}
 use Rattle.ground.specs.Tests.{oneOf}
 use Rattle.ground.specs.TestsLaws.{Under, under, and-left, and-right}
 use Rattle.settings.specs.declared.Settings.{Settings}
-use Rattle.settings.specs.Refusal.{numberOf}
-use Rattle.settings.specs.Sample.{samplesOk}
+use Rattle.refusals.specs.Refusal.{numberOf}
+use Rattle.samples.specs.Sample.{samplesOk}
 use Rattle.finder.specs.declared.Pulse.{Pulse}
 use Rattle.finder.specs.Find.{anyOver}
 use Rattle.raw.specs.declared.pair.SamplePair.{SamplePair}
 use Rattle.raw.specs.Words.{pair, pairOf}
 use Rattle.raw.specs.WordsLaws.{pair-there}
-use Rattle.items.specs.Items.{wordOf, wordsOf}
+use Rattle.items.specs.Items.{wordOf, wordsOf, itemIf}
 use Rattle.items.specs.declared.Item.{Item}
 use Rattle.items.specs.declared.Item.the-variants as I
 use Rattle.reader.specs.declared.Scan.{Scan}
@@ -25,7 +25,7 @@ use Rattle.records.specs.declared.answer.Record.{Record}
 use Rattle.records.specs.declared.answer.Record.the-variants as R
 use Rattle.records.specs.Next.{fillerAt, AllAre, isPair, startsPair, PairsMade, Made, OfRaw, partOf}
 use Rattle.channel.specs.declared.Parts.{Parts}
-use Rattle.channel.specs.Channel.{pairItems, windowItems, setOf, rawItems, integralItem, timeItem, pedestalItem, itemIf, modeTable, rowOfMode, partsOf, pulseItems, pulsesItems, commonOf, pulsesOf, channelItems}
+use Rattle.channel.specs.Channel.{pairItems, windowItems, setOf, rawItems, integralItem, timeItem, pedestalItem, modeTable, rowOfMode, partsOf, pulseItems, pulsesItems, commonOf, pulsesOf, channelItems}
 use Rattle.event.specs.Event.{row, rowsOk, timeItems, channelsItems, eventItems}
 use Rattle.writer.specs.declared.State.{State}
 use Rattle.writer.specs.declared.Finished.{Finished}

@@ -10,7 +10,7 @@ use Rattle.ground.specs.Tests.{firstOf, FirstIs}
 use Rattle.ground.specs.TestsLaws.{first-is, is-first}
 use Rattle.settings.specs.declared.Settings.{Settings}
 use Rattle.settings.specs.Ranges.{settingsOk}
-use Rattle.settings.specs.Refusal.{numberOf}
+use Rattle.refusals.specs.Refusal.{numberOf}
 use Rattle.finder.specs.Call.{findTable, findNumber, FindSays}
 use Rattle.finder.specs.declared.Answer as A
 use Rattle.reader.specs.declared.Scan.{Scan}

@@ -12,14 +12,14 @@ use denote.Triple.Clauses.{Ended, Lasts, AtExit, atExit}
 use Rattle.ground.specs.Splice.{WrittenIf}
 use Rattle.ground.specs.ResultLaws.{one-result, one-writing}
 use Rattle.fields.proofs as fields
-use Rattle.frame.proofs.block_header.BlockHeader as BlockHeader
-use Rattle.frame.proofs.empty.ModuleEmpty as ModuleEmpty
-use Rattle.frame.proofs.event_header.EventHeader as EventHeader
-use Rattle.frame.proofs.filler.Filler as Filler
-use Rattle.frame.proofs.parameters.Parameters as Parameters
-use Rattle.frame.proofs.trailer.BlockTrailer as BlockTrailer
-use Rattle.frame.proofs.trigger_time.TriggerTime as TriggerTime
-use Rattle.frame.proofs.trigger_time_high.TriggerTimeHigh as TriggerTimeHigh
+use Rattle.framing.proofs.block_header.BlockHeader as BlockHeader
+use Rattle.framing.proofs.empty.ModuleEmpty as ModuleEmpty
+use Rattle.framing.proofs.event_header.EventHeader as EventHeader
+use Rattle.framing.proofs.filler.Filler as Filler
+use Rattle.framing.proofs.parameters.Parameters as Parameters
+use Rattle.framing.proofs.trailer.BlockTrailer as BlockTrailer
+use Rattle.framing.proofs.trigger_time.TriggerTime as TriggerTime
+use Rattle.framing.proofs.trigger_time_high.TriggerTimeHigh as TriggerTimeHigh
 use Rattle.raw.proofs.pair.SamplePair as SamplePair
 use Rattle.raw.proofs.pulse_raw.PulseRaw as PulseRaw
 use Rattle.raw.proofs.window.WindowRaw as WindowRaw
@@ -28,6 +28,8 @@ use Rattle.measures.proofs.pedestal.PulsePedestal as PulsePedestal
 use Rattle.measures.proofs.time.PulseTime as PulseTime
 use Rattle.items.proofs as items
 use Rattle.items.proofs.Item as Item
+use Rattle.refusals.proofs as refusals
+use Rattle.samples.proofs as samples
 use Rattle.settings.proofs as settings
 use Rattle.finder.proofs as finder
 use Rattle.finder.specs.CallLaws as F
@@ -97,7 +99,7 @@ of-bytes-unique κs a r s u v p q = by-equation p q
 pub to-bytes-unique : Unique fields.to_bytes.ended fields.to_bytes.Reads.Learnt
 to-bytes-unique κs a r s u v p q = by-equation p q
 
--- frame::block_header
+-- framing::block_header
 pub block-header-within-unique : Unique BlockHeader.within.ended BlockHeader.within.Reads.Learnt
 block-header-within-unique κs a r s u v p q = by-equation p q
 
@@ -116,7 +118,7 @@ block-header-is-unique κs a r s u v p q = by-equation p q
 pub block-header-fixed-unique : Unique BlockHeader.fixed.ended BlockHeader.fixed.Reads.Learnt
 block-header-fixed-unique κs a r s u v p q = by-equation p q
 
--- frame::empty
+-- framing::empty
 pub empty-fits-unique : Unique ModuleEmpty.fits.ended ModuleEmpty.fits.Reads.Learnt
 empty-fits-unique κs a r s u v p q = by-equation p q
 
@@ -129,7 +131,7 @@ empty-take-apart-unique κs a r s u v p q = by-equation p q
 pub empty-is-unique : Unique ModuleEmpty.is.ended ModuleEmpty.is.Reads.Learnt
 empty-is-unique κs a r s u v p q = by-equation p q
 
--- frame::event_header
+-- framing::event_header
 pub event-header-fits-unique : Unique EventHeader.fits.ended EventHeader.fits.Reads.Learnt
 event-header-fits-unique κs a r s u v p q = by-equation p q
 
@@ -142,7 +144,7 @@ event-header-take-apart-unique κs a r s u v p q = by-equation p q
 pub event-header-is-unique : Unique EventHeader.is.ended EventHeader.is.Reads.Learnt
 event-header-is-unique κs a r s u v p q = by-equation p q
 
--- frame::filler
+-- framing::filler
 pub filler-fits-unique : Unique Filler.fits.ended Filler.fits.Reads.Learnt
 filler-fits-unique κs a r s u v p q = by-equation p q
 
@@ -155,7 +157,7 @@ filler-take-apart-unique κs a r s u v p q = by-equation p q
 pub filler-is-unique : Unique Filler.is.ended Filler.is.Reads.Learnt
 filler-is-unique κs a r s u v p q = by-equation p q
 
--- frame::parameters
+-- framing::parameters
 pub parameters-fits-unique : Unique Parameters.fits.ended Parameters.fits.Reads.Learnt
 parameters-fits-unique κs a r s u v p q = by-equation p q
 
@@ -171,7 +173,7 @@ parameters-is-unique κs a r s u v p q = by-equation p q
 pub parameters-fixed-unique : Unique Parameters.fixed.ended Parameters.fixed.Reads.Learnt
 parameters-fixed-unique κs a r s u v p q = by-equation p q
 
--- frame::trailer
+-- framing::trailer
 pub trailer-fits-unique : Unique BlockTrailer.fits.ended BlockTrailer.fits.Reads.Learnt
 trailer-fits-unique κs a r s u v p q = by-equation p q
 
@@ -184,7 +186,7 @@ trailer-take-apart-unique κs a r s u v p q = by-equation p q
 pub trailer-is-unique : Unique BlockTrailer.is.ended BlockTrailer.is.Reads.Learnt
 trailer-is-unique κs a r s u v p q = by-equation p q
 
--- frame::trigger_time
+-- framing::trigger_time
 pub trigger-time-fits-unique : Unique TriggerTime.fits.ended TriggerTime.fits.Reads.Learnt
 trigger-time-fits-unique κs a r s u v p q = by-equation p q
 
@@ -197,7 +199,7 @@ trigger-time-take-apart-unique κs a r s u v p q = by-equation p q
 pub trigger-time-is-unique : Unique TriggerTime.is.ended TriggerTime.is.Reads.Learnt
 trigger-time-is-unique κs a r s u v p q = by-equation p q
 
--- frame::trigger_time_high
+-- framing::trigger_time_high
 pub trigger-time-high-fits-unique : Unique TriggerTimeHigh.fits.ended TriggerTimeHigh.fits.Reads.Learnt
 trigger-time-high-fits-unique κs a r s u v p q = by-equation p q
 
@@ -319,16 +321,16 @@ fixed-unique κs a r s u v p q = by-equation p q
 -- ---- settings and finder
 
 -- settings
-pub number-unique : Unique settings.number.ended settings.number.Reads.Learnt
+pub number-unique : Unique refusals.number.ended refusals.number.Reads.Learnt
 number-unique κs a r s u v p q = by-equation p q
 
-pub accepted-unique : Unique settings.accepted.ended settings.accepted.Reads.Learnt
+pub accepted-unique : Unique refusals.accepted.ended refusals.accepted.Reads.Learnt
 accepted-unique κs a r s u v p q = by-equation p q
 
-pub amplitude-unique : Unique settings.amplitude.ended settings.amplitude.Reads.Learnt
+pub amplitude-unique : Unique samples.amplitude.ended samples.amplitude.Reads.Learnt
 amplitude-unique κs a r s u v p q = by-equation (p .0) (q .0)
 
-pub samples-ok-unique : Unique settings.samples_ok.ended settings.samples_ok.Reads.Learnt
+pub samples-ok-unique : Unique samples.samples_ok.ended samples.samples_ok.Reads.Learnt
 samples-ok-unique κs a r s u v p q = by-equation p q
 
 pub in-range-unique : Unique settings.in_range.ended settings.in_range.Reads.Learnt
@@ -353,13 +355,13 @@ find-unique κs a r s u v p q = (F.find-unique _ _ _ _ _ p q, refl)
 -- ---- writing
 
 -- channel
-pub put-item-unique : Unique channel.put_item.ended channel.put_item.Reads.Learnt
+pub put-item-unique : Unique items.put.put_item.ended items.put.put_item.Reads.Learnt
 put-item-unique κs a r s u v p q = by-writing (u .1) p q
 
-pub put-if-unique : Unique channel.put_if.ended channel.put_if.Reads.Learnt
+pub put-if-unique : Unique items.put.put_if.ended items.put.put_if.Reads.Learnt
 put-if-unique κs a r s u v p q = by-writing (u .1) p q
 
-pub room-short-unique : Unique channel.room_short.ended channel.room_short.Reads.Learnt
+pub room-short-unique : Unique items.put.room_short.ended items.put.room_short.Reads.Learnt
 room-short-unique κs a r s u v p q = by-equation p q
 
 pub put-channel-unique : Unique channel.put_channel.ended channel.put_channel.Reads.Learnt

@@ -11,11 +11,11 @@ use Rattle.ground.specs.TestsLaws.{Under, under, and-left, and-right}
 use Rattle.settings.specs.declared.Settings.{Settings}
 use Rattle.settings.specs.Ranges.{settingsOk}
 use Rattle.settings.specs.RangesLaws.{InRange, settings-in-range}
-use Rattle.settings.specs.Sample.{samplesOk}
+use Rattle.samples.specs.Sample.{samplesOk}
 use Rattle.finder.specs.declared.Pulse.{Pulse}
 use Rattle.finder.specs.Find.{anyOver}
 use Rattle.finder.specs.RangeLaws.{PulseFits, EachFits, pulses-fit, pulses-count}
-use Rattle.frame.specs.Words as W
+use Rattle.framing.specs.Words as W
 use Rattle.raw.specs.declared.pair.SamplePair.{SamplePair}
 use Rattle.raw.specs.Words as R
 use Rattle.measures.specs.Words as M

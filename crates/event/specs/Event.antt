@@ -7,10 +7,11 @@ use lib.Dec.{leb}
 use Rattle.ground.specs.Tests.{allOf}
 use Rattle.settings.specs.declared.Settings.{Settings}
 use Rattle.settings.specs.Ranges.{settingsOk}
-use Rattle.settings.specs.Sample.{samplesOk}
+use Rattle.samples.specs.Sample.{samplesOk}
 use Rattle.items.specs.declared.Item.{Item}
 use Rattle.items.specs.declared.Item.the-variants as I
-use Rattle.channel.specs.Channel.{itemIf, commonOf, channelItems}
+use Rattle.items.specs.Items.{itemIf}
+use Rattle.channel.specs.Channel.{commonOf, channelItems}
 
 -- "The host lends the store, 16 rows of NW samples, row c from place c x NW."
 unfoldable pub row : ℕ → ℕ → List ℕ → List ℕ

@@ -14,15 +14,16 @@ use Rattle.ground.specs.Splice.{Written}
 use Rattle.ground.specs.WritingLaws.{Left}
 use Rattle.ground.specs.TestsLaws.{every, all-of}
 use Rattle.settings.specs.declared.Settings.{Settings}
-use Rattle.settings.specs.Ranges.{mostSamples, settingsOk}
+use Rattle.limits.specs.Limits.{mostSamples}
+use Rattle.settings.specs.Ranges.{settingsOk}
 use Rattle.settings.specs.RangesLaws.{settings-in-range}
-use Rattle.settings.specs.Sample.{samplesOk}
+use Rattle.samples.specs.Sample.{samplesOk}
 use Rattle.finder.specs.CallLaws.{range-searches}
-use Rattle.items.specs.Items.{wordsOf}
+use Rattle.items.specs.Items.{wordsOf, itemIf}
 use Rattle.items.specs.declared.Item.{Item}
 use Rattle.items.specs.declared.Item.the-variants as I
 use Rattle.items.specs.ItemsLaws.{loop-room, loop-less, loop-none}
-use Rattle.channel.specs.Channel.{itemIf, commonOf, channelItems}
+use Rattle.channel.specs.Channel.{commonOf, channelItems}
 use Rattle.channel.specs.InnerLaws.{length-channel, any-channel}
 use Rattle.channel.specs.BoundLaws.{channel-most}
 use Rattle.event.specs.Event.{row, lentOk, rowsOk, timeItems, channelsItems, eventItems}

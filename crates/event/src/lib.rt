@@ -1,7 +1,7 @@
 // The words of one event: its header, its time, and the posted channels of the store.
-use frame::event_header::EventHeader;
-use frame::trigger_time::TriggerTime;
-use frame::trigger_time_high::TriggerTimeHigh;
+use framing::event_header::EventHeader;
+use framing::trigger_time::TriggerTime;
+use framing::trigger_time_high::TriggerTimeHigh;
 use items::Item;
 use settings::Settings;
 ghost use mathlib.Core.Path.{_≡_};
@@ -11,8 +11,9 @@ ghost use Prim.Native.Nat.{_+_, _-_, _*_, _^_, _≤_};
 ghost use lib.Dec.{leb, ltb};
 ghost use lib.ListN.{length};
 ghost use Rattle.ground.specs.Splice.{Written, WrittenIf};
-ghost use Rattle.settings.specs.Ranges.{mostSamples, settingsOk};
-ghost use Rattle.settings.specs.Sample.{samplesOk};
+ghost use Rattle.limits.specs.Limits.{mostSamples};
+ghost use Rattle.settings.specs.Ranges.{settingsOk};
+ghost use Rattle.samples.specs.Sample.{samplesOk};
 ghost use Rattle.items.specs.Items.{wordsOf};
 ghost use Rattle.channel.specs.Channel.{commonOf, channelItems};
 ghost use Rattle.event.specs.Event.{lentOk, rowsOk, timeItems, channelsItems, eventItems};
@@ -34,7 +35,7 @@ fn row_ok(posted: bool, row: &[u16]) -> bool
     ensures { λ r. ⌜ r ≡ (not posted || samplesOk (now (row .entry))) ⌝ }
 {
     if posted {
-        settings::samples_ok(row)
+        samples::samples_ok(row)
     } else {
         true
     }
@@ -131,11 +132,11 @@ fn put_times(words: &mut [u32], at: usize, times: u32, time: u64) -> usize
         middle: (time / 16777216 % 8) as u32,
         low: (time % 16777216) as u32,
     };
-    let second = channel::put_if(words, at, 1 <= times, Item::Clock(low));
+    let second = items::put::put_if(words, at, 1 <= times, Item::Clock(low));
     let high = TriggerTimeHigh {
         high: (time / 16777216) as u32,
     };
-    channel::put_if(words, second, 2 <= times, Item::ClockHigh(high))
+    items::put::put_if(words, second, 2 <= times, Item::ClockHigh(high))
 }
 
 // All words of an event that has room.
@@ -156,7 +157,7 @@ fn put_lent(
         slot: settings.slot,
         number,
     };
-    let times = channel::put_item(words, at, Item::Event(header));
+    let times = items::put::put_item(words, at, Item::Event(header));
     let channels = put_times(words, times, settings.times, time);
     put_channels(words, channels, settings, posted, store)
 }
@@ -207,10 +208,10 @@ fn event_short(room: usize, at: usize, settings: Settings, posted: &[bool], stor
     requires { ⌜ Lent settings (now posted) (now store) ⌝ }
     ensures { λ r. ⌜ r ≡ ltb room (at + eventLength settings (now (posted .entry)) (now (store .entry))) ⌝ }
 {
-    if !channel::room_short(room, at, MOST_EVENT) {
+    if !items::put::room_short(room, at, MOST_EVENT) {
         return false;
     }
-    channel::room_short(room, at, event_length(settings, posted, store))
+    items::put::room_short(room, at, event_length(settings, posted, store))
 }
 
 // All words of an event, or none: an event has a word, so the place tells.

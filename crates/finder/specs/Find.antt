@@ -7,8 +7,8 @@ use lib.Seq.{sets}
 use lib.Dec.{ltb, leb, eqb}
 use Rattle.ground.specs.Search.{least, greatest, sumOver}
 use Rattle.ground.specs.Tests.{allOf}
-use Rattle.settings.specs.Ranges.{mostSamples}
-use Rattle.settings.specs.Sample.{amp}
+use Rattle.limits.specs.Limits.{mostSamples}
+use Rattle.samples.specs.Sample.{amp}
 use Rattle.finder.specs.declared.Rule.{Rule}
 use Rattle.finder.specs.declared.Rule.the-variants.{Early, Late, Flat, Edge}
 use Rattle.finder.specs.declared.Time.{Time}

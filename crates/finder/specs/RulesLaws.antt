@@ -9,7 +9,7 @@ use lib.Dec.{ltb, eqb}
 use lib.ListN.{length, getD}
 use Rattle.ground.specs.Tests.{firstOf}
 use Rattle.settings.specs.declared.Settings.{Settings}
-use Rattle.settings.specs.Refusal.{numberOf}
+use Rattle.refusals.specs.Refusal.{numberOf}
 use Rattle.finder.specs.declared.Rule.the-variants.{Early, Late, Flat}
 use Rattle.finder.specs.declared.Pulse.{Pulse}
 use Rattle.finder.specs.declared.Answer.{Answer}

@@ -1,12 +1,12 @@
 // The pulse finder: document 01, "Finding pulses". Samples are numbered from 1, so 0 says that a search found none.
-use settings::Refusal;
+use refusals::Refusal;
 use settings::Settings;
 ghost use mathlib.Core.Path.{_≡_};
 ghost use Prim.Native.Nat.{_≤_};
 ghost use mathlib.Core.List.{[]};
 ghost use lib.ListN.{length};
-ghost use Rattle.settings.specs.Ranges.{mostSamples};
-ghost use Rattle.settings.specs.Refusal.{numberOf};
+ghost use Rattle.limits.specs.Limits.{mostSamples};
+ghost use Rattle.refusals.specs.Refusal.{numberOf};
 ghost use Rattle.finder.specs.Find.{ampAt, over, firstOver, overIn, anyOver, nextTc, tcFrom, setFirst, setLast, integral, early, vmin, firstFall, n1, edgeTime, tcOnly, timeAt, pulseAt, pulsesFrom, noPulse, packed, searchable, findAll, ruleNumber};
 ghost use Rattle.finder.specs.Call.{findNumber, FindSays};
 ghost use Rattle.finder.specs.Asked.{IsOver, HasEdge};
@@ -66,7 +66,7 @@ fn amp_at(window: &[u16], k: usize) -> u32
     requires { ⌜ (1 ≤ k) × (k ≤ length (now window)) ⌝ }
     ensures { λ r. ⌜ (r ≡ ampAt (now (window .entry)) k) × (r ≤ 4095) ⌝ }
 {
-    settings::amplitude(window[k - 1])
+    samples::amplitude(window[k - 1])
 }
 
 // Sample k is over the threshold.
@@ -341,7 +341,7 @@ fn all_pulses(window: &[u16], threshold: u32, nsb: usize, nsa: usize, limit: usi
 pub fn can_search(samples: usize, nsa: usize, limit: usize) -> bool
     ensures { λ r. ⌜ r ≡ searchable samples nsa limit ⌝ }
 {
-    (samples <= settings::MOST_SAMPLES) & (1 <= nsa) & (nsa <= 511) & (limit <= 3)
+    (samples <= limits::MOST_SAMPLES) & (1 <= nsa) & (nsa <= 511) & (limit <= 3)
 }
 
 // The pulses alone, for a caller that made the refusals itself. Numbers that no settings in range have give none.
@@ -368,7 +368,7 @@ fn refusal_of(settings: Settings, channel: usize, window: &[u16]) -> Refusal
     if window.len() != settings.nw {
         return Refusal::Length;
     }
-    if !settings::samples_ok(window) {
+    if !samples::samples_ok(window) {
         return Refusal::Sample;
     }
     Refusal::None
@@ -379,7 +379,7 @@ pub fn find(settings: Settings, channel: usize, window: &[u16]) -> Answer
     ensures { λ r. ⌜ FindSays settings channel (now (window .entry)) r ⌝ }
 {
     let refusal = refusal_of(settings, channel, window);
-    if !settings::accepted(refusal) {
+    if !refusals::accepted(refusal) {
         let found = no_pulses();
         return Answer { refusal, found };
     }

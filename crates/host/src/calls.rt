@@ -18,8 +18,8 @@ pub extern "C" fn fadc250_set_up(settings: &[u64], state: &mut [u64]) -> u32
     let loaded = settings_from(settings);
     let answer = writer::set_up(loaded);
     let refusal = answer.refusal;
-    if !settings::accepted(refusal) {
-        return settings::number(refusal);
+    if !refusals::accepted(refusal) {
+        return refusals::number(refusal);
     }
     if state.len() != 34 {
         return 10;

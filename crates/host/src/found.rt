@@ -85,8 +85,8 @@ pub extern "C" fn fadc250_find(
     let loaded = settings_from(settings);
     let answer = finder::find(loaded, channel as usize, window);
     let refusal = answer.refusal;
-    if !settings::accepted(refusal) {
-        return settings::number(refusal);
+    if !refusals::accepted(refusal) {
+        return refusals::number(refusal);
     }
     if out.len() < 28 {
         return 9;

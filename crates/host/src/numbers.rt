@@ -4,10 +4,10 @@ ghost use mathlib.Core.Bool.{true};
 ghost use mathlib.Core.List.{_++_};
 ghost use Prim.Native.Nat.{_≤_, _%_};
 ghost use lib.ListN.{length, getD, drop};
-ghost use Rattle.settings.specs.Refusal.{numberOf};
+ghost use Rattle.refusals.specs.Refusal.{numberOf};
 ghost use Rattle.host.specs.Face.{settingsLimits, headLimits, heldIn, isSettings, isState, settingsFrom, phaseFrom, marksFrom, stateFrom, bitOf, phaseNumber, marksNumber, headOf};
 ghost use Rattle.host.specs.Inner.{Kept};
-use settings::Refusal;
+use refusals::Refusal;
 use settings::Settings;
 use writer::Phase;
 use writer::State;
@@ -286,9 +286,9 @@ pub(crate) fn put_back(numbers: &mut [u64], refusal: Refusal, state: State) -> u
     requires { ⌜ length (now numbers) ≡ 34 ⌝ }
     ensures { λ r. ⌜ Kept (now (numbers .entry)) (numberOf refusal) state r (now (numbers .exit)) ⌝ }
 {
-    if settings::accepted(refusal) {
+    if refusals::accepted(refusal) {
         put_head(numbers, state);
         return 0;
     }
-    settings::number(refusal)
+    refusals::number(refusal)
 }

@@ -1,9 +1,9 @@
 -- The named records of the format. What is written and what is read are lists of these. Assumes nothing.
 use Prim.Native.Nat.{ℕ, _*_, _/_, _^_}
-use mathlib.Core.Bool.{Bool, true}
+use mathlib.Core.Bool.{Bool, true, cond}
 use mathlib.Core.List.{List, [], _∷_}
 use Rattle.fields.specs.Word.{Field, pack, fit}
-use Rattle.frame.specs.Words.{blockHeader, blockHeaderOf, blockHeaderFixed, parameters, parametersOf, parametersFixed, trailer, trailerOf, eventHeader, eventHeaderOf, triggerTime, triggerTimeOf, triggerTimeHigh, triggerTimeHighOf, triggerTimeHighFixed, empty, emptyOf, filler, fillerOf}
+use Rattle.framing.specs.Words.{blockHeader, blockHeaderOf, blockHeaderFixed, parameters, parametersOf, parametersFixed, trailer, trailerOf, eventHeader, eventHeaderOf, triggerTime, triggerTimeOf, triggerTimeHigh, triggerTimeHighOf, triggerTimeHighFixed, empty, emptyOf, filler, fillerOf}
 use Rattle.raw.specs.Words.{window, windowOf, windowFixed, pulseRaw, pulseRawOf, pulseRawFixed, pair, pairOf, pairFixed}
 use Rattle.measures.specs.Words.{integral, integralOf, time, timeOf, timeFixed, pedestal, pedestalOf}
 use Rattle.items.specs.declared.Form.{Form}
@@ -35,6 +35,10 @@ wordOf x = pack (rowOf x)
 abbrev pub wordsOf : List Item → List ℕ
 wordsOf [] = []
 wordsOf (x ∷ xs) = wordOf x ∷ wordsOf xs
+
+-- the record where it is wanted, and nothing where it is not
+abbrev pub itemIf : Bool → Item → List Item
+itemIf on x = cond on (x ∷ []) []
 
 -- every field is within its width
 unfoldable pub fits : Item → Bool

@@ -1,14 +1,16 @@
 // The named records of the format: what a word can be, and the word of each.
 ghost use mathlib.Core.Path.{_≡_};
 ghost use Rattle.items.specs.Items.{wordOf, itemFrom, fixedIn};
-use frame::block_header::BlockHeader;
-use frame::empty::ModuleEmpty;
-use frame::event_header::EventHeader;
-use frame::filler::Filler;
-use frame::parameters::Parameters;
-use frame::trailer::BlockTrailer;
-use frame::trigger_time::TriggerTime;
-use frame::trigger_time_high::TriggerTimeHigh;
+pub mod put;
+
+use framing::block_header::BlockHeader;
+use framing::empty::ModuleEmpty;
+use framing::event_header::EventHeader;
+use framing::filler::Filler;
+use framing::parameters::Parameters;
+use framing::trailer::BlockTrailer;
+use framing::trigger_time::TriggerTime;
+use framing::trigger_time_high::TriggerTimeHigh;
 use measures::integral::PulseIntegral;
 use measures::pedestal::PulsePedestal;
 use measures::time::PulseTime;

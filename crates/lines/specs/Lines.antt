@@ -3,12 +3,12 @@ use Prim.Native.Nat.{ℕ, _+_, _*_, _^_}
 use mathlib.Core.Bool.{cond}
 use mathlib.Core.List.{List, [], _∷_}
 use lib.Dec.{eqb}
-use Rattle.frame.specs.declared.block_header.BlockHeader.{BlockHeader}
-use Rattle.frame.specs.declared.parameters.Parameters.{Parameters}
-use Rattle.frame.specs.declared.trailer.BlockTrailer.{BlockTrailer}
-use Rattle.frame.specs.declared.event_header.EventHeader.{EventHeader}
-use Rattle.frame.specs.declared.trigger_time.TriggerTime.{TriggerTime}
-use Rattle.frame.specs.declared.empty.ModuleEmpty.{ModuleEmpty}
+use Rattle.framing.specs.declared.block_header.BlockHeader.{BlockHeader}
+use Rattle.framing.specs.declared.parameters.Parameters.{Parameters}
+use Rattle.framing.specs.declared.trailer.BlockTrailer.{BlockTrailer}
+use Rattle.framing.specs.declared.event_header.EventHeader.{EventHeader}
+use Rattle.framing.specs.declared.trigger_time.TriggerTime.{TriggerTime}
+use Rattle.framing.specs.declared.empty.ModuleEmpty.{ModuleEmpty}
 use Rattle.raw.specs.declared.window.WindowRaw.{WindowRaw}
 use Rattle.raw.specs.declared.pulse_raw.PulseRaw.{PulseRaw}
 use Rattle.raw.specs.declared.pair.SamplePair.{SamplePair}

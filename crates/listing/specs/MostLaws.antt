@@ -11,10 +11,10 @@ use lib.Pow.{pow-pos}
 use lib.ListN.{length}
 use Rattle.ground.specs.Tests.{firstOf}
 use Rattle.fields.specs.Word.{fieldAt}
-use Rattle.frame.specs.Words.{blockHeaderOf, parametersOf, trailerOf, eventHeaderOf, triggerTimeOf, triggerTimeHighOf, emptyOf, fillerOf}
+use Rattle.framing.specs.Words.{blockHeaderOf, parametersOf, trailerOf, eventHeaderOf, triggerTimeOf, triggerTimeHighOf, emptyOf, fillerOf}
 use Rattle.raw.specs.Words.{windowOf, pulseRawOf, pairOf}
 use Rattle.measures.specs.Words.{integralOf, timeOf, pedestalOf}
-use Rattle.frame.specs.declared.trigger_time.TriggerTime.{TriggerTime}
+use Rattle.framing.specs.declared.trigger_time.TriggerTime.{TriggerTime}
 use Rattle.items.specs.Items.{itemFrom, fixedIn}
 use Rattle.items.specs.declared.Form.{Form}
 use Rattle.items.specs.declared.Form.the-variants as F

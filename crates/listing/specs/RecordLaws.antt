@@ -6,7 +6,7 @@ use Rattle.text.specs.Page.{Page, put}
 use Rattle.text.specs.LineLaws.{say-none, say-one}
 use Rattle.items.specs.declared.Item.{Item}
 use Rattle.items.specs.declared.Item.the-variants as I
-use Rattle.frame.specs.declared.trigger_time.TriggerTime.{TriggerTime}
+use Rattle.framing.specs.declared.trigger_time.TriggerTime.{TriggerTime}
 use Rattle.lines.specs.declared.Second.{Second}
 use Rattle.lines.specs.Lines.{clockLine}
 use Rattle.listing.specs.Listing.{secondOf, recordLines}

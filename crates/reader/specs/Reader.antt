@@ -6,7 +6,7 @@ use mathlib.Core.List.{List, [], _∷_}
 use lib.Dec.{eqb, leb, ltb}
 use Rattle.ground.specs.Tests.{firstOf}
 use Rattle.fields.specs.Word.{read}
-use Rattle.frame.specs.Words.{blockHeaderWithin}
+use Rattle.framing.specs.Words.{blockHeaderWithin}
 use Rattle.raw.specs.Words.{windowWithin}
 use Rattle.items.specs.Items.{itemFrom, fixedIn, typeOf}
 use Rattle.items.specs.declared.Form.{Form}

@@ -8,7 +8,7 @@ ghost use Rattle.reader.specs.Reader.{onward, pairsOf, paired, filled, a
 use crate::Phase;
 use crate::Scan;
 use crate::form::PAIRS_MAX;
-use frame::block_header::BlockHeader;
+use framing::block_header::BlockHeader;
 use items::Form;
 
 // So many fillers may follow the trailer.

@@ -6,7 +6,7 @@ use mathlib.Core.List.{List, _∷_}
 use native.Mathlib.Omega.{arith}
 use lib.ListN.{length, getD, drop}
 use Rattle.fields.specs.Tag.{isContinuation}
-use Rattle.frame.specs.declared.trigger_time.TriggerTime.{TriggerTime}
+use Rattle.framing.specs.declared.trigger_time.TriggerTime.{TriggerTime}
 use Rattle.reader.specs.Reader.{onward, stepAt, judgeAt}
 use Rattle.reader.specs.RunLaws.{cons-at}
 use Rattle.reader.specs.declared.Scan.{Scan}

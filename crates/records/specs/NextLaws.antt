@@ -10,8 +10,8 @@ use lib.ListN.{length, drop, length-map}
 use Rattle.ground.specs.Tests.{firstOf}
 use Rattle.fields.specs.Word.{read}
 use Rattle.fields.specs.Tag.{isContinuation}
-use Rattle.frame.specs.Words.{blockHeaderOf, parametersOf, trailerOf, eventHeaderOf, triggerTimeOf, triggerTimeHighOf, emptyOf, fillerOf}
-use Rattle.frame.specs.declared.trigger_time.TriggerTime.{TriggerTime}
+use Rattle.framing.specs.Words.{blockHeaderOf, parametersOf, trailerOf, eventHeaderOf, triggerTimeOf, triggerTimeHighOf, emptyOf, fillerOf}
+use Rattle.framing.specs.declared.trigger_time.TriggerTime.{TriggerTime}
 use Rattle.raw.specs.Words.{windowOf, pulseRawOf, pairOf}
 use Rattle.raw.specs.declared.pair.SamplePair.{SamplePair}
 use Rattle.measures.specs.Words.{integralOf, timeOf, pedestalOf}

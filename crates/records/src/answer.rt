@@ -1,11 +1,11 @@
 // What reading on in a block answers: the named records, a raw item with the place of its pairs.
-use frame::block_header::BlockHeader;
-use frame::empty::ModuleEmpty;
-use frame::event_header::EventHeader;
-use frame::parameters::Parameters;
-use frame::trailer::BlockTrailer;
-use frame::trigger_time::TriggerTime;
-use frame::trigger_time_high::TriggerTimeHigh;
+use framing::block_header::BlockHeader;
+use framing::empty::ModuleEmpty;
+use framing::event_header::EventHeader;
+use framing::parameters::Parameters;
+use framing::trailer::BlockTrailer;
+use framing::trigger_time::TriggerTime;
+use framing::trigger_time_high::TriggerTimeHigh;
 use measures::integral::PulseIntegral;
 use measures::pedestal::PulsePedestal;
 use measures::time::PulseTime;

@@ -7,7 +7,7 @@ ghost use Rattle.records.specs.Answers.{NextSays};
 use answer::Next;
 use answer::Pairs;
 use answer::Record;
-use frame::trigger_time::TriggerTime;
+use framing::trigger_time::TriggerTime;
 use items::Item;
 use reader::Judged;
 use reader::Scan;

@@ -9,8 +9,8 @@ use Rattle.ground.specs.Splice.{splice}
 use Rattle.ground.specs.Tests.{firstOf}
 use Rattle.settings.specs.declared.Settings.{Settings}
 use Rattle.settings.specs.Ranges.{settingsOk}
-use Rattle.settings.specs.Sample.{samplesOk}
-use Rattle.settings.specs.Refusal.{numberOf}
+use Rattle.samples.specs.Sample.{samplesOk}
+use Rattle.refusals.specs.Refusal.{numberOf}
 use Rattle.items.specs.Items.{wordsOf}
 use Rattle.items.specs.declared.Item.{Item}
 use Rattle.items.specs.declared.Item.the-variants as I

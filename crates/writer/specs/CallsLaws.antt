@@ -10,7 +10,7 @@ use lib.ListN.{length, getD}
 use Rattle.ground.specs.TestsLaws.{or-none, none}
 use Rattle.settings.specs.declared.Settings.{Settings}
 use Rattle.settings.specs.Ranges.{settingsOk}
-use Rattle.settings.specs.Sample.{samplesOk}
+use Rattle.samples.specs.Sample.{samplesOk}
 use Rattle.event.specs.Event.{rowsOk}
 use Rattle.writer.specs.declared.State.{State}
 use Rattle.writer.specs.State.{blockOk, eventOk, stateOk, isIdle, isBlock, isEvent}

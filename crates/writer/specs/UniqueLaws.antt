@@ -3,10 +3,10 @@ use Prim.Native.Nat.{ℕ}
 use mathlib.Core.Path.{_≡_}
 use mathlib.Core.List.{List}
 use Rattle.ground.specs.ResultLaws.{one-result}
-use Rattle.settings.specs.declared.Refusal.{Refusal}
+use Rattle.refusals.specs.declared.Refusal.{Refusal}
 use Rattle.settings.specs.declared.Settings.{Settings}
-use Rattle.settings.specs.Refusal.{numberOf}
-use Rattle.settings.specs.RefusalLaws.{number-inj}
+use Rattle.refusals.specs.Refusal.{numberOf}
+use Rattle.refusals.specs.RefusalLaws.{number-inj}
 use Rattle.writer.specs.declared.State.{State}
 use Rattle.writer.specs.declared.Answer.{Answer}
 use Rattle.writer.specs.declared.Finished.{Finished}

@@ -7,7 +7,7 @@ mod put;
 mod ranges;
 mod refuse;
 
-use settings::Refusal;
+use refusals::Refusal;
 use settings::Settings;
 
 // No block is open, a block is open, an event of it is open.
@@ -102,7 +102,7 @@ pub fn open_block(state: State, words: &mut [u32], number: u32, events: u32) -> 
     ensures { λ r. ⌜ OpenBlockSays state (now (words .entry)) number events r (now (words .exit)) ⌝ }
 {
     let refusal = refuse::open_block_check(state, words.len(), number, events);
-    if settings::accepted(refusal) {
+    if refusals::accepted(refusal) {
         let settings = state.settings;
         let next = put::put_block(words, state.words, settings, number, events);
         let opened = State {
@@ -129,7 +129,7 @@ pub fn open_event(state: State, number: u32, time: u64) -> Answer
     ensures { λ r. ⌜ OpenEventSays state number time r ⌝ }
 {
     let refusal = refuse::open_event_check(state, number, time);
-    if settings::accepted(refusal) {
+    if refusals::accepted(refusal) {
         let settings = state.settings;
         let posted = state.posted;
         let opened = State {
@@ -156,7 +156,7 @@ pub fn post(state: State, store: &mut [u16], channel: usize, window: &[u16]) -> 
     ensures { λ r. ⌜ PostSays state (now (store .entry)) channel (now (window .entry)) r (now (store .exit)) ⌝ }
 {
     let refusal = refuse::post_check(state, store.len(), channel, window);
-    if settings::accepted(refusal) {
+    if refusals::accepted(refusal) {
         let settings = state.settings;
         let nw = settings.nw;
         let start = channel * nw;
@@ -177,7 +177,7 @@ pub fn close(state: State, store: &[u16], words: &mut [u32]) -> Answer
     ensures { λ r. ⌜ CloseSays state (now (store .entry)) (now (words .entry)) r (now (words .exit)) ⌝ }
 {
     let refusal = refuse::close_check(state, store);
-    if !settings::accepted(refusal) {
+    if !refusals::accepted(refusal) {
         return Answer { refusal, state };
     }
     let settings = state.settings;
@@ -213,7 +213,7 @@ pub fn finish(state: State, words: &mut [u32]) -> Finished
     ensures { λ r. ⌜ FinishSays state (now (words .entry)) r (now (words .exit)) ⌝ }
 {
     let refusal = refuse::finish_check(state, words.len());
-    if settings::accepted(refusal) {
+    if refusals::accepted(refusal) {
         let settings = state.settings;
         let length = put::put_end(words, state.words, settings);
         let idle = idle_state(settings);

@@ -8,11 +8,11 @@ ghost use Rattle.settings.specs.Ranges.{settingsOk};
 ghost use Rattle.items.specs.Items.{wordsOf};
 ghost use Rattle.items.specs.declared.Item.the-variants as I;
 ghost use Rattle.writer.specs.Calls.{blockItems, fillersTo, endItems};
-use channel::put_item;
-use frame::block_header::BlockHeader;
-use frame::filler::Filler;
-use frame::parameters::Parameters;
-use frame::trailer::BlockTrailer;
+use items::put::put_item;
+use framing::block_header::BlockHeader;
+use framing::filler::Filler;
+use framing::parameters::Parameters;
+use framing::trailer::BlockTrailer;
 use items::Item;
 use settings::Settings;
 

@@ -4,7 +4,7 @@ ghost use mathlib.Core.Bool.{false};
 ghost use Prim.Native.Nat.{_*_};
 ghost use lib.Dec.{ltb};
 ghost use lib.ListN.{getD};
-ghost use Rattle.settings.specs.Refusal.{numberOf};
+ghost use Rattle.refusals.specs.Refusal.{numberOf};
 ghost use Rattle.writer.specs.Calls.{openBlockNumber, openEventNumber, postNumber, finishNumber};
 ghost use Rattle.writer.specs.Order.{firstWrong, beforeRoom};
 use crate::State;
@@ -16,8 +16,8 @@ use crate::ranges::is_block;
 use crate::ranges::is_event;
 use crate::ranges::is_idle;
 use crate::ranges::state_ok;
-use channel::room_short;
-use settings::Refusal;
+use items::put::room_short;
+use refusals::Refusal;
 
 // What is wrong with a call, in the paper's order of refusals: 10, 7, 8, 4, 5, 6, 2, 3, 9.
 pub(crate) struct Wrong {
@@ -136,7 +136,7 @@ pub(crate) fn post_check(s: State, room: usize, channel: usize, window: &[u16]) 
     let event = is_event(phase);
     let again = is_posted(&posted, channel);
     let short = store_short(room, settings.nw);
-    let samples = settings::samples_ok(window);
+    let samples = samples::samples_ok(window);
     first_wrong(Wrong {
         state: !good,
         turn: !event,

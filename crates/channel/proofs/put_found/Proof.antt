@@ -6,7 +6,7 @@ use mathlib.Core.List.{List, [], _++_}
 use native.Mathlib.Omega.{arith}
 use borrow.Author.Needs.{needs}
 use lib.ListN.{length}
-use Rattle.settings.specs.Ranges.{mostSamples}
+use Rattle.limits.specs.Limits.{mostSamples}
 use Rattle.finder.specs.FindLaws.{searched}
 use Rattle.items.specs.declared.Item.{Item}
 use Rattle.items.specs.ItemsLaws.{first-room, then-room, then-written}

@@ -7,10 +7,10 @@ use native.Mathlib.Omega.{arith}
 use borrow.Author.Needs.{needs}
 use lib.ListN.{length}
 use Rattle.ground.specs.Splice.{Written}
-use Rattle.items.specs.Items.{wordsOf}
+use Rattle.items.specs.Items.{wordsOf, itemIf}
 use Rattle.items.specs.declared.Item.{Item}
 use Rattle.items.specs.ItemsLaws.{first-room, then-room, put-written, then-written}
-use Rattle.channel.specs.Channel.{rawItems, integralItem, timeItem, pedestalItem, itemIf, pulseItems}
+use Rattle.channel.specs.Channel.{rawItems, integralItem, timeItem, pedestalItem, pulseItems}
 use Rattle.channel.proofs.put_pulse.Statement.{statement}
 use Rattle.channel.proofs.put_pulse.Tie as tie
 

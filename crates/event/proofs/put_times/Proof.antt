@@ -8,7 +8,7 @@ use lib.Dec.{leb}
 use Rattle.items.specs.declared.Item.{Item}
 use Rattle.items.specs.declared.Item.the-variants as I
 use Rattle.items.specs.ItemsLaws.{first-room, then-room, put-written, then-written}
-use Rattle.channel.specs.Channel.{itemIf}
+use Rattle.items.specs.Items.{itemIf}
 use Rattle.event.specs.Event.{timeItems}
 use Rattle.event.proofs.put_times.Statement.{statement}
 use Rattle.event.proofs.put_times.Tie as tie

@@ -1,6 +1,6 @@
 -- `reader::after::scan_after` meets its contract.
 use borrow.Author.Needs.{needs}
-use Rattle.frame.specs.Words.{triggerTimeOf}
+use Rattle.framing.specs.Words.{triggerTimeOf}
 use Rattle.raw.specs.Words.{pairOf, windowOf}
 use Rattle.reader.specs.Reader.{after, mostPairs}
 use Rattle.reader.proofs.after.scan_after.Statement.{statement}

@@ -2,7 +2,7 @@
 use mathlib.Core.Bool.{not, or-false}
 use borrow.Author.Needs.{needs}
 use Rattle.ground.specs.Tests.{firstOf}
-use Rattle.frame.specs.Words.{parametersFixed, trailerOf, eventHeaderOf, fillerOf}
+use Rattle.framing.specs.Words.{parametersFixed, trailerOf, eventHeaderOf, fillerOf}
 use Rattle.raw.specs.Words.{pulseRawFixed}
 use Rattle.measures.specs.Words.{timeFixed}
 use Rattle.reader.proofs.question.refusal.Statement.{statement}

@@ -1,6 +1,6 @@
 -- `reader::question::trailer_wrong` meets its contract.
 use borrow.Author.Needs.{needs}
-use Rattle.frame.specs.Words.{trailerOf}
+use Rattle.framing.specs.Words.{trailerOf}
 use Rattle.reader.proofs.question.trailer_wrong.Statement.{statement}
 use Rattle.reader.proofs.question.trailer_wrong.Tie as tie
 

@@ -1,0 +1,30 @@
+-- The largest counts of document 01: one is given, the others follow. Assumes nothing.
+use Prim.Native.Nat.{ℕ, _+_, _*_, _/_}
+
+-- "NW, samples per window, 1 to 500"
+abbrev pub mostSamples : ℕ
+mostSamples = 500
+
+-- "Type 4 has ceil(width/2) pairs"
+unfoldable pub pairsOf : ℕ → ℕ
+pairsOf samples = (samples + 1) / 2
+
+-- "type 6 has 1 to 250": a data set lies in its window
+unfoldable pub mostPairs : ℕ
+mostPairs = pairsOf mostSamples
+
+-- a window, or a pulse's data set: a word and its pairs
+unfoldable pub mostRaw : ℕ
+mostRaw = 1 + mostPairs
+
+-- a pulse, whatever is written of it: its data set, integral, time and pedestal
+unfoldable pub mostPulse : ℕ
+mostPulse = mostRaw + 3
+
+-- a channel: "Pulse limit 1 to 3", and no mode writes more than data sets of three, or a window with less behind it
+unfoldable pub mostChannel : ℕ
+mostChannel = 3 * mostRaw
+
+-- "at most 2 + 12,051 x events closed": an event is its header, two time words and sixteen channels
+unfoldable pub mostEvent : ℕ
+mostEvent = 3 + 16 * mostChannel

@@ -1,0 +1,34 @@
+-- No two refusals have one number. Assumes nothing.
+use Prim.Native.Nat.{ℕ}
+use mathlib.Core.Path.{_≡_, refl, sym, ap, _∙_}
+use mathlib.Core.List.{[], _∷_}
+use lib.ListN.{getD}
+use Rattle.refusals.specs.declared.Refusal.{Refusal}
+use Rattle.refusals.specs.declared.Refusal.the-variants.{None, Setting, Store, Sample, Channel, Length, Posted, Turn, Number, Room, State, Missing, Unallowed, Bits, Count, Slot, Bytes}
+use Rattle.refusals.specs.Refusal.{numberOf}
+
+-- the refusal of a number
+abbrev refusalAt : ℕ → Refusal
+refusalAt n = getD (None ∷ Setting ∷ Store ∷ Sample ∷ Channel ∷ Length ∷ Posted ∷ Turn ∷ Number ∷ Room ∷ State ∷ Missing ∷ Unallowed ∷ Bits ∷ Count ∷ Slot ∷ Bytes ∷ []) n None
+
+refusal-back : (r : Refusal) → refusalAt (numberOf r) ≡ r
+refusal-back None = refl
+refusal-back Setting = refl
+refusal-back Store = refl
+refusal-back Sample = refl
+refusal-back Channel = refl
+refusal-back Length = refl
+refusal-back Posted = refl
+refusal-back Turn = refl
+refusal-back Number = refl
+refusal-back Room = refl
+refusal-back State = refl
+refusal-back Missing = refl
+refusal-back Unallowed = refl
+refusal-back Bits = refl
+refusal-back Count = refl
+refusal-back Slot = refl
+refusal-back Bytes = refl
+
+pub number-inj : (a b : Refusal) → numberOf a ≡ numberOf b → a ≡ b
+number-inj a b e = sym (refusal-back a) ∙ ap refusalAt e ∙ refusal-back b

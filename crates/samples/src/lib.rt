@@ -1,0 +1,29 @@
+// What a sample is.
+ghost use mathlib.Core.Path.{_≡_};
+ghost use Prim.Native.Nat.{_≤_};
+ghost use Rattle.samples.specs.Sample.{samplesOk, amp};
+
+// The greatest sample, and the greatest amplitude.
+pub const SAMPLE_MAX: u16 = 8191;
+
+pub const AMPLITUDE_MAX: u32 = 4095;
+
+// A sample's amplitude: nothing else knows how it is made.
+pub fn amplitude(sample: u16) -> u32
+    ensures { λ r. ⌜ (r ≡ amp sample) × (r ≤ 4095) ⌝ }
+{
+    (sample % 4096) as u32
+}
+
+// No sample of the window is over the greatest. No early way out: the tests of many samples are then made at once.
+pub fn samples_ok(window: &[u16]) -> bool
+    ensures { λ r. ⌜ r ≡ samplesOk (now (window .entry)) ⌝ }
+{
+    let mut good = true;
+    let mut i = 0;
+    while i < window.len() {
+        good = good & (window[i] <= SAMPLE_MAX);
+        i += 1;
+    }
+    good
+}
