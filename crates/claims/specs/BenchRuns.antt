@@ -29,8 +29,8 @@ use Rattle.writer.specs.Calls.{setUpNumber, blockItems, openBlockTable, openBlo
 use Rattle.text.specs.Line.{placesOf, decimal, cellsText, lineText, textOf}
 use Rattle.listing.specs.Listing.{itemLines, fillersIn, blockLines, linesFrom, linesOf, listingOf}
 use Rattle.host.specs.Check.{numberOfOut}
-use Rattle.claims.specs.NothingLost.{AllWords}
-use Rattle.claims.specs.Grammar.{Each}
+use Rattle.layout.specs.NothingLost.{AllWords}
+use Rattle.layout.specs.Grammar.{Each}
 use Rattle.claims.specs.Bytes.{bytesOfWords, bytesOfText, bytesOfLines}
 use Rattle.claims.specs.ReadsLaws.{reads-whole}
 use Rattle.claims.specs.CheckLaws.{check-bytes}

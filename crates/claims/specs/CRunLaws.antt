@@ -22,7 +22,7 @@ use Rattle.claims.specs.Order as P
 use Rattle.claims.specs.OrderLaws.{order}
 use Rattle.claims.specs.Own.{EventRun, windowOf, ofChannel, wordsFor}
 use Rattle.claims.specs.AloneLaws.{own-words, no-window, own-alone}
-use Rattle.claims.specs.NothingLost.{AllWords}
+use Rattle.layout.specs.NothingLost.{AllWords}
 use Rattle.claims.specs.Run.{Run}
 use Rattle.claims.specs.Run as R
 use Rattle.claims.specs.RunLaws.{ReadBack, run-reads-back}

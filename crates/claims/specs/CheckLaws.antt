@@ -15,7 +15,7 @@ use Rattle.host.specs.Check.{numberOfOut, checkNumber}
 use Rattle.writer.specs.declared.State.{State}
 use Rattle.writer.specs.declared.Finished.{Finished}
 use Rattle.writer.specs.Calls.{FinishSays}
-use Rattle.claims.specs.NothingLost.{AllWords}
+use Rattle.layout.specs.NothingLost.{AllWords}
 use Rattle.claims.specs.Bytes.{bytesOfWords}
 use Rattle.claims.specs.Run.{Run}
 use Rattle.claims.specs.RunLaws.{run-checks}

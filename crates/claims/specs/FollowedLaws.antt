@@ -17,10 +17,10 @@ use Rattle.text.specs.Line.{Line, textOf}
 use Rattle.text.specs.LineLaws.{text-append}
 use Rattle.lines.specs.Lines.{refusedLine}
 use Rattle.listing.specs.Listing.{blockLines, blockThen, linesFrom, lengthWrong, linesOf, listingOf}
-use Rattle.claims.specs.NothingLost.{AllWords}
-use Rattle.claims.specs.Grammar.{Tree, block, empty, recordsOf, Spelt, SpeltTree, Ends, Front}
-use Rattle.claims.specs.WrongLaws.{first-wrong}
-use Rattle.claims.specs.ExactLaws.{spelt-length, alone, followed, accepted-exactly}
+use Rattle.layout.specs.NothingLost.{AllWords}
+use Rattle.layout.specs.Grammar.{Tree, block, empty, recordsOf, Spelt, SpeltTree, Ends, Front}
+use Rattle.layout.specs.WrongLaws.{first-wrong}
+use Rattle.layout.specs.ExactLaws.{spelt-length, alone, followed, accepted-exactly}
 use Rattle.claims.specs.Bytes.{bytesOfWords}
 use Rattle.claims.specs.CheckLaws.{words-back, four, check-bytes}
 

@@ -26,8 +26,8 @@ use Rattle.records.specs.NextLaws.{SaysNext, next-says}
 use Rattle.writer.specs.declared.State.{State}
 use Rattle.writer.specs.declared.Finished.{Finished}
 use Rattle.writer.specs.Calls.{endItems, FinishSays}
-use Rattle.claims.specs.NothingLost.{AllWords, Spell, nothing-lost}
-use Rattle.claims.specs.FirstWrong.{placeOf, place-counts, place-small}
+use Rattle.layout.specs.NothingLost.{AllWords, Spell, nothing-lost}
+use Rattle.layout.specs.FirstWrong.{placeOf, place-counts, place-small}
 use Rattle.claims.specs.Run.{Run}
 use Rattle.claims.specs.RunLaws.{run-reads-back}
 use Rattle.claims.specs.Reads.{PartRead, Reads, at-end, took}

@@ -31,12 +31,12 @@ use Rattle.writer.specs.Calls.{ifAccepted, blockItems, openBlockNumber, openEve
 use Rattle.writer.specs.CallsLaws.{done, refused, OpenBlockAccepted, open-block-accepted, CloseAccepted, close-accepted, FinishAccepted, finish-accepted}
 use Rattle.writer.specs.StateLaws.{state-settings, IdleSays, idle-says, BlockSays, block-says, EventSays, event-says, trailer-fits, open-block-kept, open-event-kept, post-kept, closing-kept}
 use Rattle.writer.specs.WordsLaws.{fillers-lt}
-use Rattle.claims.specs.Layout.{IsBlock}
-use Rattle.claims.specs.LayoutLaws.{round-trip}
-use Rattle.claims.specs.PassLaws.{both}
-use Rattle.claims.specs.Grammar.{EventTree, no-setup, setup, BlockTree, block, eventOf, eventsOf, setupOf, bodyOf, Each, EventOk, BlockOk, Widths}
-use Rattle.claims.specs.GrammarLaws.{tree-is-block}
-use Rattle.claims.specs.ParseLaws.{Parsed}
+use Rattle.layout.specs.Layout.{IsBlock}
+use Rattle.layout.specs.LayoutLaws.{round-trip}
+use Rattle.layout.specs.PassLaws.{both}
+use Rattle.layout.specs.Grammar.{EventTree, no-setup, setup, BlockTree, block, eventOf, eventsOf, setupOf, bodyOf, Each, EventOk, BlockOk, Widths}
+use Rattle.layout.specs.GrammarLaws.{tree-is-block}
+use Rattle.layout.specs.ParseLaws.{Parsed}
 use Rattle.claims.specs.WrittenLaws.{TreeOf, each-append, event-made}
 use Rattle.claims.specs.Refused.{open-block-refused, close-refused, finish-refused}
 use Rattle.claims.specs.Run.{Run, opened, begun, posted, closed, not-closed, not-opened, not-finished}

@@ -31,8 +31,8 @@ use Rattle.writer.specs.declared.State.{State}
 use Rattle.writer.specs.declared.Finished.{Finished}
 use Rattle.writer.specs.Calls.{blockItems, closingItems, closeNumber, fillersTo, endItems, FinishSays}
 use Rattle.writer.specs.CallsLaws.{close-accepted}
-use Rattle.claims.specs.PassLaws.{both}
-use Rattle.claims.specs.Grammar.{Each}
+use Rattle.layout.specs.PassLaws.{both}
+use Rattle.layout.specs.Grammar.{Each}
 use Rattle.claims.specs.WrittenLaws.{under-set, pairs}
 use Rattle.claims.specs.Reads.{PartRead, Reads, at-end, took}
 use Rattle.claims.specs.ReadsLaws.{run-next}

@@ -25,7 +25,7 @@ use Rattle.writer.specs.State.{stateOk}
 use Rattle.writer.specs.Calls.{ifAccepted, setUpNumber, openBlockTable, openBlockNumber, openEventTable, openEventNumber, postTable, postNumber, closeTable, closeNumber, finishTable, finishNumber, SetUpSays, OpenBlockSays, OpenEventSays, PostSays, CloseSays, FinishSays}
 use Rattle.writer.specs.CallsLaws.{done}
 use Rattle.writer.specs.StateLaws.{set-up-kept, open-block-kept, open-event-kept, post-kept, closing-kept, finish-kept}
-use Rattle.claims.specs.Wrong.{questions}
+use Rattle.layout.specs.Wrong.{questions}
 
 -- ---- in the paper's order
 

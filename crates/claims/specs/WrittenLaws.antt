@@ -27,8 +27,8 @@ use Rattle.channel.specs.Channel.{pairItems, windowItems, setOf, rawItems, inte
 use Rattle.channel.specs.InnerLaws.{length-set}
 use Rattle.event.specs.Event.{row, rowsOk, timeItems, channelsItems, eventItems}
 use Rattle.event.specs.EventLaws.{row-end}
-use Rattle.claims.specs.PassLaws.{both}
-use Rattle.claims.specs.Grammar.{Piece, window, raw, integral, time, pedestal, Clock, no-clock, clock27, clock48, eachPair, pieceOf, piecesOf, clockOf, eventOf, Each, BothValid, OddEnd, full, short, WindowPairs, RawPairs, PieceOk, ClockOk, EventOk, Widths}
+use Rattle.layout.specs.PassLaws.{both}
+use Rattle.layout.specs.Grammar.{Piece, window, raw, integral, time, pedestal, Clock, no-clock, clock27, clock48, eachPair, pieceOf, piecesOf, clockOf, eventOf, Each, BothValid, OddEnd, full, short, WindowPairs, RawPairs, PieceOk, ClockOk, EventOk, Widths}
 
 -- the records of a tree that is as asked, every field within its bits
 pub record TreeOf {A : Type 0} (of : A → List Item) (ok : A → Type 0) (xs : List Item) : Type 0 where

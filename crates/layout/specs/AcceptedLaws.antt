@@ -22,10 +22,10 @@ use Rattle.reader.specs.declared.Step.{Step}
 use Rattle.reader.specs.declared.Step.the-variants as S
 use Rattle.reader.specs.Reader.{mostPairs, moreIn, inner, allowedIn, otherIn, formIn, formFor, formAt, isEnd, unfinished, atLimit, itemWrong, refusalOf, after, stepAt, withItem, judgeAt, Whole, Broken, startOf, endOf, onJudged, readFrom}
 use Rattle.reader.specs.ReaderLaws.{Accepted, accepted}
-use Rattle.claims.specs.NothingLost.{Real, Tagged, form-back, real-of, tag-of}
-use Rattle.claims.specs.Layout.{Stands, Follow, IsBlock}
-use Rattle.claims.specs.LayoutLaws.{form-by}
-use Rattle.claims.specs.PassLaws.{both}
+use Rattle.layout.specs.NothingLost.{Real, Tagged, form-back, real-of, tag-of}
+use Rattle.layout.specs.Layout.{Stands, Follow, IsBlock}
+use Rattle.layout.specs.LayoutLaws.{form-by}
+use Rattle.layout.specs.PassLaws.{both}
 
 -- ---- what was read is within its width
 

@@ -12,7 +12,7 @@ use Rattle.items.specs.declared.Item.{Item}
 use Rattle.reader.specs.declared.Phase.{Phase}
 use Rattle.reader.specs.declared.Scan.{Scan}
 use Rattle.reader.specs.Reader.{inner, allowedIn, otherIn, formIn, unfinished, atLimit, onward}
-use Rattle.claims.specs.Layout.{Follow}
+use Rattle.layout.specs.Layout.{Follow}
 
 -- ---- one after the other
 

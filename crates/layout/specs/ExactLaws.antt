@@ -16,15 +16,15 @@ use Rattle.items.specs.declared.Item.the-variants as I
 use Rattle.reader.specs.declared.Scan.{Scan}
 use Rattle.reader.specs.Reader.{startOf, after, then, just, Whole, Reading, readFrom}
 use Rattle.reader.specs.RunLaws.{items-le}
-use Rattle.claims.specs.FirstWrong.{records-before}
-use Rattle.claims.specs.NothingLost.{AllWords, Spell, nothing-lost}
-use Rattle.claims.specs.Layout.{Follow}
-use Rattle.claims.specs.LayoutLaws.{Says, says, read-step, behind}
-use Rattle.claims.specs.AcceptedLaws.{accepted-block}
-use Rattle.claims.specs.Grammar.{Tree, block, empty, recordsOf, Spelt, SpeltTree, Ends, no-filler, one-word, Front}
-use Rattle.claims.specs.GrammarLaws.{tree-is-block}
-use Rattle.claims.specs.ParseLaws.{Parsed, block-has-tree}
-use Rattle.claims.specs.EndsLaws.{ends-there, there-ends, whole-behind}
+use Rattle.layout.specs.FirstWrong.{records-before}
+use Rattle.layout.specs.NothingLost.{AllWords, Spell, nothing-lost}
+use Rattle.layout.specs.Layout.{Follow}
+use Rattle.layout.specs.LayoutLaws.{Says, says, read-step, behind}
+use Rattle.layout.specs.AcceptedLaws.{accepted-block}
+use Rattle.layout.specs.Grammar.{Tree, block, empty, recordsOf, Spelt, SpeltTree, Ends, no-filler, one-word, Front}
+use Rattle.layout.specs.GrammarLaws.{tree-is-block}
+use Rattle.layout.specs.ParseLaws.{Parsed, block-has-tree}
+use Rattle.layout.specs.EndsLaws.{ends-there, there-ends, whole-behind}
 
 -- ---- a word with undefined bits
 

@@ -25,8 +25,8 @@ use Rattle.reader.specs.declared.Phase.{Phase}
 use Rattle.reader.specs.declared.Phase.the-variants as P
 use Rattle.reader.specs.declared.Scan.{Scan}
 use Rattle.reader.specs.Reader.{mostPairs, pairsOf, moreIn, edges, inner, allowedIn, otherIn, formIn, unfinished, isNo, isEnd, flagWrong, timeWrong, onward, paired, filled, after, startOf}
-use Rattle.claims.specs.Layout.{Stands, Follow, IsBlock}
-use Rattle.claims.specs.Grammar.{Piece, window, raw, integral, time, pedestal, no-clock, clock27, clock48, EventTree, Setup, no-setup, setup, Tree, block, empty, eachPair, pieceOf, piecesOf, clockOf, eventsOf, setupOf, recordsOf, Each, BothValid, OddEnd, WindowPairs, LastPair, full, short, RawPairs, PieceOk, ClockOk, EventOk, TreeOk, WellFormed, Widths}
+use Rattle.layout.specs.Layout.{Stands, Follow, IsBlock}
+use Rattle.layout.specs.Grammar.{Piece, window, raw, integral, time, pedestal, no-clock, clock27, clock48, EventTree, Setup, no-setup, setup, Tree, block, empty, eachPair, pieceOf, piecesOf, clockOf, eventsOf, setupOf, recordsOf, Each, BothValid, OddEnd, WindowPairs, LastPair, full, short, RawPairs, PieceOk, ClockOk, EventOk, TreeOk, WellFormed, Widths}
 
 -- ---- the rest of the records, by where the reading stands
 

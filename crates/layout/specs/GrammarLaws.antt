@@ -22,9 +22,9 @@ use Rattle.reader.specs.declared.Phase.{Phase}
 use Rattle.reader.specs.declared.Phase.the-variants as P
 use Rattle.reader.specs.declared.Scan.{Scan}
 use Rattle.reader.specs.Reader.{mostPairs, pairsOf, moreIn, formFor, unfinished, atLimit, slotWrong, flagWrong, itemWrong, countWrong, onward, paired, filled, slotAfter, after, startOf}
-use Rattle.claims.specs.Layout.{Stands, Follow, IsBlock}
-use Rattle.claims.specs.PassLaws.{Inside, inside-none, inside-append, Inner, Edge, inner-edge, not-limit, both, onward-one}
-use Rattle.claims.specs.Grammar.{Piece, window, raw, integral, time, pedestal, Clock, no-clock, clock27, clock48, EventTree, Setup, no-setup, setup, BlockTree, Tree, block, empty, eachPair, pieceOf, piecesOf, clockOf, eventOf, eventsOf, setupOf, bodyOf, recordsOf, Each, LastPair, full, short, WindowPairs, RawPairs, PieceOk, ClockOk, EventOk, BlockOk, WellFormed, Widths}
+use Rattle.layout.specs.Layout.{Stands, Follow, IsBlock}
+use Rattle.layout.specs.PassLaws.{Inside, inside-none, inside-append, Inner, Edge, inner-edge, not-limit, both, onward-one}
+use Rattle.layout.specs.Grammar.{Piece, window, raw, integral, time, pedestal, Clock, no-clock, clock27, clock48, EventTree, Setup, no-setup, setup, BlockTree, Tree, block, empty, eachPair, pieceOf, piecesOf, clockOf, eventOf, eventsOf, setupOf, bodyOf, recordsOf, Each, LastPair, full, short, WindowPairs, RawPairs, PieceOk, ClockOk, EventOk, BlockOk, WellFormed, Widths}
 
 widths-split : (xs ys : List Item) → Widths (xs ++ ys) → Widths xs × Widths ys
 widths-split [] ys w = (tt, w)

@@ -26,8 +26,8 @@ use Rattle.reader.specs.Reader.{then, Whole, startOf, formFor, formAt, isNo, is
 use Rattle.reader.specs.declared.Judged.the-variants as J
 use Rattle.reader.specs.ReaderLaws.{judge-by}
 use Rattle.reader.specs.RunLaws.{read-at}
-use Rattle.claims.specs.FirstWrong.{records-before}
-use Rattle.claims.specs.Layout.{Stands, Follow, IsBlock}
+use Rattle.layout.specs.FirstWrong.{records-before}
+use Rattle.layout.specs.Layout.{Stands, Follow, IsBlock}
 
 -- ---- one record's word
 

@@ -18,10 +18,10 @@ use Rattle.items.specs.declared.Item.the-variants as I
 use Rattle.reader.specs.declared.Phase.the-variants as P
 use Rattle.reader.specs.declared.Scan.{Scan}
 use Rattle.reader.specs.Reader.{formIn, formAt, isEnd, atLimit, filled, after, stepAt, judgeAt, startOf, Whole, Broken, endOf, Reading, just, readFrom}
-use Rattle.claims.specs.LayoutLaws.{behind}
-use Rattle.claims.specs.Wrong.{onto}
-use Rattle.claims.specs.WrongLaws.{At, ends, stops, goes, at}
-use Rattle.claims.specs.Grammar.{Tree, block, empty, bodyOf, recordsOf, TreeOk, NoFiller, Ends, third, no-filler, one-word}
+use Rattle.layout.specs.LayoutLaws.{behind}
+use Rattle.layout.specs.Wrong.{onto}
+use Rattle.layout.specs.WrongLaws.{At, ends, stops, goes, at}
+use Rattle.layout.specs.Grammar.{Tree, block, empty, bodyOf, recordsOf, TreeOk, NoFiller, Ends, third, no-filler, one-word}
 
 -- ---- how many fillers may still come behind a tree's records
 
