@@ -34,8 +34,8 @@ abbrev pub paperOrder : List ℕ
 paperOrder = 10 ∷ 7 ∷ 8 ∷ 4 ∷ 5 ∷ 6 ∷ 2 ∷ 3 ∷ 9 ∷ []
 
 -- the numbers of a table's rows
-abbrev pub numbersOf : List (ℕ × Bool) → List ℕ
-numbersOf rows = map (λ r. r .0) rows
+abbrev pub rowNumbers : List (ℕ × Bool) → List ℕ
+rowNumbers rows = map (λ r. r .0) rows
 
 -- they come in that order, each at most once, some left out
 abbrev pub inOrder : List ℕ → List ℕ → Bool
@@ -44,7 +44,7 @@ inOrder (n ∷ ns) [] = false
 inOrder (n ∷ ns) (o ∷ os) = cond (eqb n o) (inOrder ns os) (inOrder (n ∷ ns) os)
 
 abbrev pub Ordered : List (ℕ × Bool) → Type 0
-Ordered rows = inOrder (numbersOf rows) paperOrder ≡ true
+Ordered rows = inOrder (rowNumbers rows) paperOrder ≡ true
 
 pub open-block-order : (s : State) (room number events : ℕ) → Ordered (openBlockTable s room number events)
 unfolding openBlockTable
@@ -67,15 +67,15 @@ unfolding finishTable
 finish-order s room = refl
 
 -- "refusals 1, 4, 5, 3 in that order"
-pub find-order : (s : Settings) (c : ℕ) (w : List ℕ) → numbersOf (findTable s c w) ≡ 1 ∷ 4 ∷ 5 ∷ 3 ∷ []
+pub find-order : (s : Settings) (c : ℕ) (w : List ℕ) → rowNumbers (findTable s c w) ≡ 1 ∷ 4 ∷ 5 ∷ 3 ∷ []
 unfolding findTable
 find-order s c w = refl
 
 -- the reader, "at each word, in this order: 14 ..; 11 no word left; 12 ..; 15 ..; 13 ..; 14 .."
-pub end-order : (s : Scan) → numbersOf (questions s []) ≡ 14 ∷ 11 ∷ []
+pub end-order : (s : Scan) → rowNumbers (questions s []) ≡ 14 ∷ 11 ∷ []
 end-order s = refl
 
-pub read-order : (s : Scan) (word : ℕ) (words : List ℕ) → isEnd (formAt s word) ≡ false → numbersOf (questions s (word ∷ words)) ≡ 14 ∷ 12 ∷ 15 ∷ 13 ∷ 14 ∷ []
+pub read-order : (s : Scan) (word : ℕ) (words : List ℕ) → isEnd (formAt s word) ≡ false → rowNumbers (questions s (word ∷ words)) ≡ 14 ∷ 12 ∷ 15 ∷ 13 ∷ 14 ∷ []
 read-order s word words h = rw h
 
 -- ---- exactly when
