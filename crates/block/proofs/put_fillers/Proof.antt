@@ -1,4 +1,4 @@
--- `writer::put::put_fillers` meets its contract: what is left to write is as many fillers. Assumes nothing.
+-- `block::put_fillers` meets its contract: what is left to write is as many fillers. Assumes nothing.
 use Prim.Native.Nat.{ℕ, suc, _+_, _-_, _≤_, _<_}
 use mathlib.Core.Path.{_≡_, refl, ap}
 use mathlib.Core.List.{List, [], _∷_}
@@ -10,8 +10,8 @@ use Rattle.items.specs.Items.{wordOf, wordsOf}
 use Rattle.items.specs.declared.Item.{Item}
 use Rattle.items.specs.declared.Item.the-variants as I
 use Rattle.items.specs.ItemsLaws.{length-words}
-use Rattle.writer.proofs.put.put_fillers.Statement.{statement}
-use Rattle.writer.proofs.put.put_fillers.Tie as tie
+use Rattle.block.proofs.put_fillers.Statement.{statement}
+use Rattle.block.proofs.put_fillers.Tie as tie
 
 abbrev filler : ℕ → Item
 filler slot = I.Filler (record { slot = slot })
