@@ -20,13 +20,7 @@ use items::put::room_short;
 use settings::Settings;
 use state::ranges::head_words;
 
-fn put_head(
-    words: &mut [u32],
-    at: usize,
-    settings: Settings,
-    number: u32,
-    events: u32,
-) -> usize
+fn put_head(words: &mut [u32], at: usize, settings: Settings, number: u32, events: u32) -> usize
     requires { ⌜ (settingsOk settings ≡ true) × (at + length (blockItems settings number events) ≤ length (now words)) ⌝ }
     ensures { λ r. ⌜ Written (now (words .entry)) at (wordsOf (blockItems settings number events)) r (now (words .exit)) ⌝ }
 {
@@ -41,7 +35,12 @@ fn put_head(
         nsb: settings.nsb as u32,
         nsa: settings.nsa as u32,
     };
-    put_if(words, next, settings.parameters, Item::Parameters(parameters))
+    put_if(
+        words,
+        next,
+        settings.parameters,
+        Item::Parameters(parameters),
+    )
 }
 
 // A block's header and any parameters word, all or none.

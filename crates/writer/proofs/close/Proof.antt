@@ -15,11 +15,10 @@ use Rattle.event.specs.Inner.{Lent}
 use Rattle.event.specs.EventLaws.{lent-enough}
 use Rattle.state.specs.State.{withClosed}
 use Rattle.state.specs.StateLaws.{state-settings, event-says}
-use Rattle.writer.specs.CallsLaws.{CloseAccepted, close-accepted}
-use Rattle.writer.specs.Calls.{closingItems}
-use Rattle.writer.specs.Order.{beforeRoom}
-use Rattle.writer.specs.CodeLaws.{refused-before, close-fits, close-short}
-use Rattle.writer.specs.WordsLaws.{next-place}
+use Rattle.refusing.specs.Tables.{closingItems, beforeRoom}
+use Rattle.refusing.specs.TablesLaws.{CloseAccepted, close-accepted}
+use Rattle.refusing.specs.RoomLaws.{refused-before, close-fits, close-short}
+use Rattle.writer.specs.CallsLaws.{next-place}
 use Rattle.writer.proofs.close.Statement.{statement}
 use Rattle.writer.proofs.close.Tie as tie
 
