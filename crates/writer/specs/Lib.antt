@@ -1,4 +1,5 @@
 pub mod Calls
 pub mod CallsLaws
 pub mod KeptLaws
+pub mod CloseLaws
 pub mod UniqueLaws
