@@ -12,7 +12,9 @@ use Rattle.finder.specs.Call.{FindSays}
 use Rattle.items.specs.declared.Item.{Item}
 use Rattle.writer.specs.declared.Answer.{Answer}
 use Rattle.writer.specs.declared.Finished.{Finished}
-use Rattle.writer.specs.Calls.{ifAccepted, blockItems, closingItems, SetUpSays, FinishSays}
+use Rattle.writer.specs.Calls.{ifAccepted, SetUpSays, FinishSays}
+use Rattle.block.specs.Block.{blockItems}
+use Rattle.refusing.specs.Tables.{closingItems}
 use Rattle.host.specs.Face.{isState, settingsFrom, stateFrom, inHigh, foundNumbers, OpenBlockFace, OpenEventFace, PostFace, CloseFace, FinishFace}
 use Rattle.host.specs.BackLaws.{Loads}
 use Rattle.claims.specs.Run.{Run}

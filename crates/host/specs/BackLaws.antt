@@ -10,16 +10,18 @@ use borrow.Author.Tests.{eq-eqb, ne-eqb, eqb-true, le-leb}
 use lib.Dec.{eqb}
 use lib.ListN.{length, getD, drop, length-set}
 use lib.Pow.{shr-shr, mod-pow-add}
-use Rattle.writer.specs.declared.Phase.{Phase}
-use Rattle.writer.specs.declared.Phase.the-variants.{Idle, Block, Event}
-use Rattle.writer.specs.declared.State.{State}
-use Rattle.writer.specs.State.{isIdle, isBlock, isEvent, mostEvent, stateOk, idle, withBlock, withEvent, withMark, withClosed}
-use Rattle.writer.specs.StateLaws.{idle-says, block-says, event-says, state-settings, trailer-fits, words-le, open-block-kept, open-event-kept, post-kept, closing-kept, finish-kept, set-up-kept}
+use Rattle.state.specs.declared.Phase.{Phase}
+use Rattle.state.specs.declared.Phase.the-variants.{Idle, Block, Event}
+use Rattle.state.specs.declared.State.{State}
+use Rattle.state.specs.State.{isIdle, isBlock, isEvent, stateOk, idle, withBlock, withEvent, withMark, withClosed}
+use Rattle.limits.specs.LimitsLaws.{most-event}
+use Rattle.state.specs.StateLaws.{idle-says, block-says, event-says, state-settings, trailer-fits, words-le}
+use Rattle.writer.specs.KeptLaws.{open-block-kept, open-event-kept, post-kept, closing-kept, finish-kept, set-up-kept}
 use Rattle.ground.specs.Tests.{oneOf}
 use Rattle.settings.specs.RangesLaws.{settings-in-range}
-use Rattle.writer.specs.Calls.{endItems}
-use Rattle.writer.specs.CallsLaws.{finish-accepted}
-use Rattle.writer.specs.WordsLaws.{end-length, multiple-positive, fillers-lt}
+use Rattle.block.specs.Block.{endItems}
+use Rattle.refusing.specs.TablesLaws.{finish-accepted}
+use Rattle.block.specs.BlockLaws.{end-length, multiple-positive, fillers-lt}
 use Rattle.host.specs.Face.{most32, most64, headLimits, heldIn, isSettings, isState, settingsFrom, phaseFrom, table, marksFrom, stateFrom, bitOf, settingsNumbers, phaseNumber, marksNumber, headOf, numbersOf, blockOpened, posted, eventClosed, finishOn, orElse, SetUpFace, OpenBlockFace, OpenEventFace, PostFace, CloseFace, FinishFace}
 use Rattle.host.specs.NumbersLaws.{marks-small, state-34, state-settings-held, head-held}
 use Rattle.host.specs.FaceLaws.{from-place, bit-back, settings-back}
@@ -125,7 +127,7 @@ held-by s h Event e =
     record { block = v .inside .number; events = events; event = v .number; time = v .time; closed = omega (arith, events, v .closed) }
 
 head-held-in : (s : State) → stateOk s ≡ true → length (s .posted) ≡ 16 → heldIn headLimits (headOf s) ≡ true
-unfolding heldIn headLimits headOf mostEvent
+unfolding heldIn headLimits headOf
 head-held-in s h k =
     let f = held-by s h (s .phase) refl in
     let marks : marksNumber (s .posted) < 2 ^ 16 = ap-lt (marks-small (s .posted)) in
@@ -137,7 +139,7 @@ head-held-in s h k =
       le-leb (s .time) most64 (omega (arith, f .time)),
       le-leb (marksNumber (s .posted)) 65535 (omega (arith, marks)),
       le-leb (s .closed) most32 (omega (arith, f .closed)),
-      le-leb (s .words) most64 (omega (arith, words-le s h)),
+      le-leb (s .words) most64 (omega (arith, words-le s h, most-event)),
     )
   where
     ap-lt : {n : ℕ} → n < 2 ^ length (s .posted) → n < 2 ^ 16

@@ -11,12 +11,14 @@ use Rattle.finder.specs.declared.Pulse.{Pulse}
 use Rattle.finder.specs.declared.Pulses.{Pulses}
 use Rattle.finder.specs.Find.{noPulse, packed, ruleNumber}
 use Rattle.finder.specs.Call.{findNumber, foundPulses}
-use Rattle.writer.specs.declared.Phase.{Phase}
-use Rattle.writer.specs.declared.Phase.the-variants.{Idle, Block, Event}
-use Rattle.writer.specs.declared.State.{State}
-use Rattle.writer.specs.State.{idle, withBlock, withEvent, withMark, withClosed}
+use Rattle.state.specs.declared.Phase.{Phase}
+use Rattle.state.specs.declared.Phase.the-variants.{Idle, Block, Event}
+use Rattle.state.specs.declared.State.{State}
+use Rattle.state.specs.State.{idle, withBlock, withEvent, withMark, withClosed}
 use Rattle.items.specs.Items.{wordsOf}
-use Rattle.writer.specs.Calls.{ifAccepted, setUpNumber, blockItems, openBlockNumber, openEventNumber, postNumber, rowStart, closingItems, closeNumber, endItems, finishNumber}
+use Rattle.writer.specs.Calls.{ifAccepted, rowStart}
+use Rattle.refusing.specs.Tables.{setUpNumber, openBlockNumber, openEventNumber, postNumber, closingItems, closeNumber, finishNumber}
+use Rattle.block.specs.Block.{blockItems, endItems}
 
 -- ---- which numbers are settings, which are a state
 

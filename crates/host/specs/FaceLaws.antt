@@ -14,9 +14,11 @@ use Rattle.refusals.specs.Refusal.{numberOf}
 use Rattle.items.specs.Items.{wordsOf}
 use Rattle.writer.specs.declared.Answer.{Answer}
 use Rattle.writer.specs.declared.Finished.{Finished}
-use Rattle.writer.specs.declared.State.{State}
-use Rattle.writer.specs.State.{idle, blank, withBlock, withEvent, withMark, withClosed}
-use Rattle.writer.specs.Calls.{ifAccepted, setUpNumber, SetUpSays, blockItems, openBlockNumber, OpenBlockSays, openEventNumber, OpenEventSays, postNumber, rowStart, PostSays, closingItems, closeNumber, CloseSays, endItems, finishNumber, FinishSays}
+use Rattle.state.specs.declared.State.{State}
+use Rattle.state.specs.State.{idle, blank, withBlock, withEvent, withMark, withClosed}
+use Rattle.writer.specs.Calls.{ifAccepted, SetUpSays, OpenBlockSays, OpenEventSays, rowStart, PostSays, CloseSays, FinishSays}
+use Rattle.refusing.specs.Tables.{setUpNumber, openBlockNumber, openEventNumber, postNumber, closingItems, closeNumber, finishNumber}
+use Rattle.block.specs.Block.{blockItems, endItems}
 use Rattle.writer.specs.CallsLaws.{done}
 use Rattle.ground.specs.Splice.{splice}
 use Rattle.host.specs.Face.{settingsLimits, isSettings, isState, settingsFrom, stateFrom, table, bitOf, settingsNumbers, headOf, numbersOf, onState, onSettings, orElse, blockOpened, posted, eventClosed, finishOn, inHigh, SetUpFace, OpenBlockFace, OpenEventFace, PostFace, CloseFace, FinishFace}

@@ -6,7 +6,7 @@ use lib.ListN.{drop, getD}
 use Rattle.finder.specs.declared.Pulse.{Pulse}
 use Rattle.finder.specs.declared.Pulses.{Pulses}
 use Rattle.finder.specs.Find.{noPulse}
-use Rattle.writer.specs.declared.State.{State}
+use Rattle.state.specs.declared.State.{State}
 use Rattle.writer.specs.Calls.{ifAccepted}
 use Rattle.host.specs.Face.{headOf}
 

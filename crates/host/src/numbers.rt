@@ -9,8 +9,8 @@ ghost use Rattle.host.specs.Face.{settingsLimits, headLimits, heldIn, is
 ghost use Rattle.host.specs.Inner.{Kept};
 use refusals::Refusal;
 use settings::Settings;
-use writer::Phase;
-use writer::State;
+use state::Phase;
+use state::State;
 
 // The greatest numbers of a 32-bit and of a 64-bit field.
 const MOST_32: u64 = 4294967295;

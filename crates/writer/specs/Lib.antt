@@ -1,8 +1,5 @@
-pub mod State
-pub mod StateLaws
 pub mod Calls
 pub mod CallsLaws
-pub mod WordsLaws
+pub mod KeptLaws
+pub mod CloseLaws
 pub mod UniqueLaws
-pub mod Order
-pub mod CodeLaws

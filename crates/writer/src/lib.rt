@@ -1,34 +1,13 @@
 // One event, one store: the state of a run and the six calls that change it.
 ghost use mathlib.Core.Path.{_≡_};
-ghost use Rattle.writer.specs.State.{idle, blank};
 ghost use Rattle.writer.specs.Calls.{SetUpSays, OpenBlockSays, OpenEventSays, PostSays, CloseSays, FinishSays};
 
 mod put;
-mod ranges;
-mod refuse;
 
 use refusals::Refusal;
 use settings::Settings;
-
-// No block is open, a block is open, an event of it is open.
-pub enum Phase {
-    Idle,
-    Block,
-    Event,
-}
-
-// `events` are those the block is to hold, `closed` those it holds so far, `words` the words written to it so far.
-pub struct State {
-    pub settings: Settings,
-    pub phase: Phase,
-    pub block: u32,
-    pub events: u32,
-    pub event: u32,
-    pub time: u64,
-    pub posted: [bool; 16],
-    pub closed: u32,
-    pub words: usize,
-}
+use state::Phase;
+use state::State;
 
 // What a call answers: a refused one hands back the state that came in.
 pub struct Answer {
@@ -43,54 +22,18 @@ pub struct Finished {
     pub length: usize,
 }
 
-// No block is open: all but the settings is zero.
-fn idle_state(settings: Settings) -> State
-    ensures { λ r. ⌜ r ≡ idle settings ⌝ }
-{
-    State {
-        settings,
-        phase: Phase::Idle,
-        block: 0,
-        events: 0,
-        event: 0,
-        time: 0,
-        posted: [false; 16],
-        closed: 0,
-        words: 0,
-    }
-}
-
-// What stands for no state: every call refuses it, since its settings are out of range.
-fn no_state() -> State
-    ensures { λ r. ⌜ r ≡ blank ⌝ }
-{
-    idle_state(Settings {
-        mode: 0,
-        nw: 0,
-        pl: 0,
-        nsb: 0,
-        nsa: 0,
-        limit: 0,
-        thresholds: [0; 16],
-        slot: 0,
-        parameters: false,
-        times: 0,
-        multiple: 0,
-    })
-}
-
 // A state for those settings, idle.
 pub fn set_up(settings: Settings) -> Answer
     ensures { λ r. ⌜ SetUpSays settings r ⌝ }
 {
     if settings::in_range(settings) {
-        let state = idle_state(settings);
+        let state = state::idle_state(settings);
         return Answer {
             refusal: Refusal::None,
             state,
         };
     }
-    let state = no_state();
+    let state = state::no_state();
     Answer {
         refusal: Refusal::Setting,
         state,
@@ -101,10 +44,10 @@ pub fn set_up(settings: Settings) -> Answer
 pub fn open_block(state: State, words: &mut [u32], number: u32, events: u32) -> Answer
     ensures { λ r. ⌜ OpenBlockSays state (now (words .entry)) number events r (now (words .exit)) ⌝ }
 {
-    let refusal = refuse::open_block_check(state, words.len(), number, events);
+    let refusal = refusing::open_block_check(state, words.len(), number, events);
     if refusals::accepted(refusal) {
         let settings = state.settings;
-        let next = put::put_block(words, state.words, settings, number, events);
+        let next = block::put_block(words, state.words, settings, number, events);
         let opened = State {
             settings,
             phase: Phase::Block,
@@ -128,7 +71,7 @@ pub fn open_block(state: State, words: &mut [u32], number: u32, events: u32) -> 
 pub fn open_event(state: State, number: u32, time: u64) -> Answer
     ensures { λ r. ⌜ OpenEventSays state number time r ⌝ }
 {
-    let refusal = refuse::open_event_check(state, number, time);
+    let refusal = refusing::open_event_check(state, number, time);
     if refusals::accepted(refusal) {
         let settings = state.settings;
         let posted = state.posted;
@@ -155,7 +98,7 @@ pub fn open_event(state: State, number: u32, time: u64) -> Answer
 pub fn post(state: State, store: &mut [u16], channel: usize, window: &[u16]) -> Answer
     ensures { λ r. ⌜ PostSays state (now (store .entry)) channel (now (window .entry)) r (now (store .exit)) ⌝ }
 {
-    let refusal = refuse::post_check(state, store.len(), channel, window);
+    let refusal = refusing::post_check(state, store.len(), channel, window);
     if refusals::accepted(refusal) {
         let settings = state.settings;
         let nw = settings.nw;
@@ -176,7 +119,7 @@ pub fn post(state: State, store: &mut [u16], channel: usize, window: &[u16]) -> 
 pub fn close(state: State, store: &[u16], words: &mut [u32]) -> Answer
     ensures { λ r. ⌜ CloseSays state (now (store .entry)) (now (words .entry)) r (now (words .exit)) ⌝ }
 {
-    let refusal = refuse::close_check(state, store);
+    let refusal = refusing::close_check(state, store);
     if !refusals::accepted(refusal) {
         return Answer { refusal, state };
     }
@@ -212,11 +155,11 @@ pub fn close(state: State, store: &[u16], words: &mut [u32]) -> Answer
 pub fn finish(state: State, words: &mut [u32]) -> Finished
     ensures { λ r. ⌜ FinishSays state (now (words .entry)) r (now (words .exit)) ⌝ }
 {
-    let refusal = refuse::finish_check(state, words.len());
+    let refusal = refusing::finish_check(state, words.len());
     if refusals::accepted(refusal) {
         let settings = state.settings;
-        let length = put::put_end(words, state.words, settings);
-        let idle = idle_state(settings);
+        let length = block::put_end(words, state.words, settings);
+        let idle = state::idle_state(settings);
         return Finished {
             refusal,
             state: idle,
