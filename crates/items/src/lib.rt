@@ -1,6 +1,7 @@
 // The named records of the format: what a word can be, and the word of each.
 ghost use mathlib.Core.Path.{_≡_};
 ghost use Rattle.items.specs.Items.{wordOf, itemFrom, fixedIn};
+
 pub mod put;
 
 use framing::block_header::BlockHeader;

@@ -2,7 +2,7 @@
 use Prim.Native.Nat.{ℕ, _+_, _*_, _/_}
 
 -- "NW, samples per window, 1 to 500"
-abbrev pub mostSamples : ℕ
+unfoldable pub mostSamples : ℕ
 mostSamples = 500
 
 -- "Type 4 has ceil(width/2) pairs"

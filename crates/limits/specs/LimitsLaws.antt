@@ -7,10 +7,11 @@ use Rattle.limits.specs.Limits.{mostSamples, pairsOf, mostPairs, mostRaw
 -- ---- the numbers, as the code has them
 
 pub most-samples : mostSamples ≡ 500
+unfolding mostSamples
 most-samples = refl
 
 pub most-pairs : mostPairs ≡ 250
-unfolding pairsOf mostPairs
+unfolding mostSamples pairsOf mostPairs
 most-pairs = refl
 
 pub most-raw : mostRaw ≡ 251
