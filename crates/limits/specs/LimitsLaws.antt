@@ -2,7 +2,7 @@
 use Prim.Native.Nat.{ℕ, _+_, _*_, _/_, _≤_}
 use mathlib.Core.Path.{_≡_, refl}
 use native.Mathlib.Omega.{arith}
-use Rattle.limits.specs.Limits.{mostSamples, pairsOf, mostPairs, mostRaw, mostPulse, mostChannel, mostEvent}
+use Rattle.limits.specs.Limits.{mostSamples, pairsOf, mostPairs, mostRaw, mostPulse, mostChannel, channels, mostEvent}
 
 -- ---- the numbers, as the code has them
 
@@ -40,7 +40,7 @@ pub channel-is : mostChannel ≡ 3 * mostRaw
 unfolding mostChannel
 channel-is = refl
 
-pub event-is : mostEvent ≡ 3 + 16 * mostChannel
+pub event-is : mostEvent ≡ 3 + channels * mostChannel
 unfolding mostEvent
 event-is = refl
 
