@@ -8,7 +8,8 @@ use lib.Dec.{ltb, leb, eqb}
 use Rattle.ground.specs.Search.{least, greatest, sumOver}
 use Rattle.ground.specs.Tests.{allOf}
 use Rattle.limits.specs.Limits.{mostSamples}
-use Rattle.samples.specs.Sample.{amp}
+use Rattle.settings.specs.Ranges.{mostNsa, mostLimit}
+use Rattle.samples.specs.Sample.{amp, isOver}
 use Rattle.finder.specs.declared.Rule.{Rule}
 use Rattle.finder.specs.declared.Rule.the-variants.{Early, Late, Flat, Edge}
 use Rattle.finder.specs.declared.Time.{Time}
@@ -21,9 +22,9 @@ ampAt w k = amp (getD w (k - 1) 0)
 
 -- ---- where a pulse is
 
--- ""Over" means V greater than the threshold."
+-- sample k is over
 unfoldable pub over : List ℕ → ℕ → ℕ → Bool
-over w t k = ltb t (ampAt w k)
+over w t k = isOver t (getD w (k - 1) 0)
 
 -- "First pulse: TC is the least number that is over." Of the first n samples.
 unfoldable pub firstOver : List ℕ → ℕ → ℕ → ℕ
@@ -156,7 +157,7 @@ packed l = record { count = length l; pulses = sets (replicate 3 noPulse) 0 l }
 
 -- what settings in range say of a search: the samples, NSA and the limit
 unfoldable pub searchable : ℕ → ℕ → ℕ → Bool
-searchable n nsa limit = allOf (leb n mostSamples ∷ leb 1 nsa ∷ leb nsa 511 ∷ leb limit 3 ∷ [])
+searchable n nsa limit = allOf (leb n mostSamples ∷ leb 1 nsa ∷ leb nsa mostNsa ∷ leb limit mostLimit ∷ [])
 
 -- the pulses alone, for a caller that made the refusals itself
 unfoldable pub findAll : List ℕ → ℕ → ℕ → ℕ → ℕ → Pulses

@@ -12,7 +12,7 @@ use Rattle.settings.specs.declared.Settings.{Settings}
 use Rattle.refusals.specs.Refusal.{numberOf}
 use Rattle.finder.specs.declared.Rule.the-variants.{Early, Late, Flat}
 use Rattle.finder.specs.declared.Pulse.{Pulse}
-use Rattle.finder.specs.declared.Answer.{Answer}
+use Rattle.finder.specs.declared.FindAnswer.{FindAnswer}
 use Rattle.finder.specs.Find.{early, vmin, firstFall, tcOnly, edgeTime, afterFall, timeAt, ruleNumber, ruleTable, tcFrom, pulseAt, pulsesFrom, packed}
 use Rattle.finder.specs.RangeLaws.{pulses-count, packed-back}
 use Rattle.finder.specs.Call.{findNumber, channelPulses, foundPulses, rulesOf, foundRules, FindSays}
@@ -57,5 +57,5 @@ rules-found s c w = go (eqb (findNumber s c w) 0) refl
     go false e = rw (found-none s c w e)
 
 -- an answer by its refusal and its pulses
-pub find-says : (s : Settings) (c : ℕ) (w : List ℕ) {r : Answer} → numberOf (r .refusal) ≡ findNumber s c w → r .found ≡ packed (foundPulses s c w) → FindSays s c w r
+pub find-says : (s : Settings) (c : ℕ) (w : List ℕ) {r : FindAnswer} → numberOf (r .refusal) ≡ findNumber s c w → r .found ≡ packed (foundPulses s c w) → FindSays s c w r
 find-says s c w e f = record { refusal = e; found = f; rules = ap rulesOf f ∙ rules-found s c w }

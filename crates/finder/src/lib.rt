@@ -1,11 +1,15 @@
 // The pulse finder: document 01, "Finding pulses". Samples are numbered from 1, so 0 says that a search found none.
 use refusals::Refusal;
+use settings::LIMIT_MAX;
+use settings::NSA_MAX;
 use settings::Settings;
 ghost use mathlib.Core.Path.{_≡_};
 ghost use Prim.Native.Nat.{_≤_};
 ghost use mathlib.Core.List.{[]};
 ghost use lib.ListN.{length};
 ghost use Rattle.limits.specs.Limits.{mostSamples};
+ghost use Rattle.settings.specs.Ranges.{mostNsa, mostLimit};
+ghost use Rattle.samples.specs.Sample.{mostAmp};
 ghost use Rattle.refusals.specs.Refusal.{numberOf};
 ghost use Rattle.finder.specs.Find.{ampAt, over, firstOver, overIn, anyOver, nextTc, tcFrom, setFirst, setLast, integral, early, vmin, firstFall, n1, edgeTime, tcOnly, timeAt, pulseAt, pulsesFrom, noPulse, packed, searchable, findAll, ruleNumber};
 ghost use Rattle.finder.specs.Call.{findNumber, FindSays};
@@ -44,7 +48,7 @@ pub struct Pulses {
 }
 
 // The finder's answer: a refused call has no pulses.
-pub struct Answer {
+pub struct FindAnswer {
     pub refusal: Refusal,
     pub found: Pulses,
 }
@@ -64,7 +68,7 @@ pub fn rule_number(rule: Rule) -> u32
 // The amplitude of sample k.
 fn amp_at(window: &[u16], k: usize) -> u32
     requires { ⌜ (1 ≤ k) × (k ≤ length (now window)) ⌝ }
-    ensures { λ r. ⌜ (r ≡ ampAt (now (window .entry)) k) × (r ≤ 4095) ⌝ }
+    ensures { λ r. ⌜ (r ≡ ampAt (now (window .entry)) k) × (r ≤ mostAmp) ⌝ }
 {
     samples::amplitude(window[k - 1])
 }
@@ -74,7 +78,7 @@ fn is_over(window: &[u16], threshold: u32, k: usize) -> bool
     requires { ⌜ (1 ≤ k) × (k ≤ length (now window)) ⌝ }
     ensures { λ r. ⌜ r ≡ over (now (window .entry)) threshold k ⌝ }
 {
-    threshold < amp_at(window, k)
+    samples::over(threshold, window[k - 1])
 }
 
 // The first of the first n samples that is over.
@@ -148,7 +152,7 @@ fn set_first(tc: usize, nsb: usize) -> usize
 
 // The last sample of the data set.
 fn set_last(tc: usize, nsa: usize, nw: usize) -> usize
-    requires { ⌜ (1 ≤ tc) × (tc ≤ mostSamples) × (nsa ≤ 511) ⌝ }
+    requires { ⌜ (1 ≤ tc) × (tc ≤ mostSamples) × (nsa ≤ mostNsa) ⌝ }
     ensures { λ r. ⌜ r ≡ setLast tc nsa nw ⌝ }
 {
     let end = tc + nsa - 1;
@@ -276,7 +280,7 @@ fn time_at(window: &[u16], threshold: u32, tc: usize) -> Time
 // The pulse at tc.
 fn pulse_at(window: &[u16], threshold: u32, nsb: usize, nsa: usize, tc: usize) -> Pulse
     requires { ⌜ IsOver (now window) threshold tc ⌝ }
-    requires { ⌜ (length (now window) ≤ mostSamples) × (nsa ≤ 511) ⌝ }
+    requires { ⌜ (length (now window) ≤ mostSamples) × (nsa ≤ mostNsa) ⌝ }
     ensures { λ r. ⌜ r ≡ pulseAt (now (window .entry)) threshold nsb nsa tc ⌝ }
 {
     let first = set_first(tc, nsb);
@@ -318,7 +322,7 @@ fn no_pulses() -> Pulses
 
 // Every pulse of the window, up to the limit. No search begins once the limit is reached.
 fn all_pulses(window: &[u16], threshold: u32, nsb: usize, nsa: usize, limit: usize) -> Pulses
-    requires { ⌜ (length (now window) ≤ mostSamples) × (1 ≤ nsa) × (nsa ≤ 511) × (limit ≤ 3) ⌝ }
+    requires { ⌜ (length (now window) ≤ mostSamples) × (1 ≤ nsa) × (nsa ≤ mostNsa) × (limit ≤ mostLimit) ⌝ }
     ensures { λ r. ⌜ r ≡ packed (pulsesFrom (now (window .entry)) threshold nsb nsa limit 0) ⌝ }
 {
     let none = no_pulse();
@@ -341,7 +345,7 @@ fn all_pulses(window: &[u16], threshold: u32, nsb: usize, nsa: usize, limit: usi
 pub fn can_search(samples: usize, nsa: usize, limit: usize) -> bool
     ensures { λ r. ⌜ r ≡ searchable samples nsa limit ⌝ }
 {
-    (samples <= limits::MOST_SAMPLES) & (1 <= nsa) & (nsa <= 511) & (limit <= 3)
+    (samples <= limits::MOST_SAMPLES) & (1 <= nsa) & (nsa <= NSA_MAX) & (limit <= LIMIT_MAX)
 }
 
 // The pulses alone, for a caller that made the refusals itself. Numbers that no settings in range have give none.
@@ -375,13 +379,13 @@ fn refusal_of(settings: Settings, channel: usize, window: &[u16]) -> Refusal
 }
 
 // The pulses of one channel's window, or why there are none.
-pub fn find(settings: Settings, channel: usize, window: &[u16]) -> Answer
+pub fn find(settings: Settings, channel: usize, window: &[u16]) -> FindAnswer
     ensures { λ r. ⌜ FindSays settings channel (now (window .entry)) r ⌝ }
 {
     let refusal = refusal_of(settings, channel, window);
     if !refusals::accepted(refusal) {
         let found = no_pulses();
-        return Answer { refusal, found };
+        return FindAnswer { refusal, found };
     }
     let thresholds = settings.thresholds;
     let threshold = thresholds[channel];
@@ -392,5 +396,5 @@ pub fn find(settings: Settings, channel: usize, window: &[u16]) -> Answer
         settings.nsa,
         settings.limit,
     );
-    Answer { refusal, found }
+    FindAnswer { refusal, found }
 }
