@@ -18,6 +18,10 @@ pub most-raw : mostRaw ≡ 251
 unfolding mostRaw
 most-raw = rw most-pairs
 
+pub most-pulse : mostPulse ≡ 254
+unfolding mostPulse
+most-pulse = rw most-raw
+
 pub most-channel : mostChannel ≡ 753
 unfolding mostChannel
 most-channel = rw most-raw

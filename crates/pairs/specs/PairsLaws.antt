@@ -1,14 +1,15 @@
--- Samples taken two by two, and the part of a window that is a pulse's data set. Assumes nothing.
-use Prim.Native.Nat.{ℕ, suc, _+_, _-_, _≤_, _<_}
-use mathlib.Core.Path.{_≡_}
+-- Samples taken two by two, and how many pairs they are. Assumes nothing.
+use Prim.Native.Nat.{ℕ, suc, _+_, _/_, _≤_, _<_}
+use mathlib.Core.Path.{_≡_, refl, sym, _∙_}
 use mathlib.Core.List.{List, [], _∷_}
 use native.Mathlib.Omega.{arith}
 use native.Mathlib.Numerals.{add-one}
-use lib.ListN.{length, take, drop, getD, drop-of-length-le}
+use lib.ListN.{length, drop, getD, drop-of-length-le}
 use lib.Seq.{drop-cons}
+use Rattle.limits.specs.Limits.{pairsOf}
+use Rattle.limits.specs.LimitsLaws.{pairs-is}
 use Rattle.items.specs.declared.Item.the-variants as I
-use Rattle.finder.specs.declared.Pulse.{Pulse}
-use Rattle.channel.specs.Channel.{pairItems, setOf}
+use Rattle.pairs.specs.Pairs.{pairItems}
 
 -- two samples from i on
 pub pairs-two : (l : List ℕ) (i : ℕ) → i + 1 < length l
@@ -30,9 +31,12 @@ pairs-one l i h k =
 pub pairs-none : (l : List ℕ) (i : ℕ) → length l ≤ i → pairItems (drop i l) ≡ []
 pairs-none l i h = rw (drop-of-length-le l h)
 
--- the part of the window from the set's first sample to its last
-pub part-set : (w : List ℕ) (p : Pulse) → 1 ≤ p .first → take (p .last - (p .first - 1)) (drop (p .first - 1) w) ≡ setOf w p
-unfolding setOf
-part-set w p h =
-    let e : p .last - (p .first - 1) ≡ p .last + 1 - p .first = omega arith in
-    rw e
+-- ---- how many
+
+pub length-pairs : (w : List ℕ) → length (pairItems w) ≡ pairsOf (length w)
+length-pairs w = halves w ∙ sym (pairs-is (length w))
+  where
+    halves : (l : List ℕ) → length (pairItems l) ≡ (length l + 1) / 2
+    halves [] = refl
+    halves (x ∷ []) = refl
+    halves (x ∷ y ∷ r) = omega (arith, halves r)

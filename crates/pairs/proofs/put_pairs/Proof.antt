@@ -1,4 +1,4 @@
--- `channel::pairs::put_pairs` meets its contract: in a turn what is left begins with the pair from i on.
+-- `pairs::put_pairs` meets its contract: in a turn what is left begins with the pair from i on.
 use Prim.Native.Nat.{ℕ, _+_, _-_, _≤_}
 use mathlib.Core.Path.{_≡_, subst, _∙_}
 use mathlib.Core.List.{List, [], _∷_}
@@ -10,10 +10,10 @@ use Rattle.items.specs.Items.{wordsOf}
 use Rattle.items.specs.declared.Item.{Item}
 use Rattle.items.specs.declared.Item.the-variants as I
 use Rattle.items.specs.ItemsLaws.{loop-room, loop-less, loop-none, loop-last}
-use Rattle.channel.specs.Channel.{pairItems}
-use Rattle.channel.specs.PairsLaws.{pairs-two, pairs-one, pairs-none}
-use Rattle.channel.proofs.pairs.put_pairs.Statement.{statement}
-use Rattle.channel.proofs.pairs.put_pairs.Tie as tie
+use Rattle.pairs.specs.Pairs.{pairItems}
+use Rattle.pairs.specs.PairsLaws.{pairs-two, pairs-one, pairs-none}
+use Rattle.pairs.proofs.put_pairs.Statement.{statement}
+use Rattle.pairs.proofs.put_pairs.Tie as tie
 
 abbrev Inv-loop : tie.InvT-loop
 Inv-loop words₀ at samples next₀ i₀ words next i = (i ≤ length samples) × Left words₀ at (wordsOf (pairItems samples)) words next (wordsOf (pairItems (drop i samples)))

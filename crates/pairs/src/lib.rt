@@ -1,18 +1,15 @@
-// Samples as they came: a whole window, and a pulse's data set, in pairs.
-use finder::Pulse;
+// Samples as they came, in pairs behind a header: a window, or a pulse's data set.
 use items::Item;
 use raw::pair::SamplePair;
-use raw::pulse_raw::PulseRaw;
-use raw::window::WindowRaw;
 ghost use mathlib.Core.Path.{_≡_};
+ghost use mathlib.Core.Bool.{true};
 ghost use mathlib.Core.List.{[], _∷_};
 ghost use Prim.Native.Nat.{_+_, _<_, _≤_};
 ghost use lib.ListN.{length};
-ghost use Rattle.ground.specs.Splice.{Written};
-ghost use Rattle.limits.specs.Limits.{mostSamples};
-ghost use Rattle.finder.specs.RangeLaws.{PulseFits};
+ghost use Rattle.ground.specs.Splice.{Written, WrittenIf};
+ghost use Rattle.limits.specs.Limits.{pairsOf};
 ghost use Rattle.items.specs.Items.{wordOf, wordsOf};
-ghost use Rattle.channel.specs.Channel.{pairItems, windowItems, rawItems};
+ghost use Rattle.pairs.specs.Pairs.{pairItems};
 
 fn pair_of(first: u16, second: u16) -> SamplePair
     ensures { λ r. ⌜ r ≡ record { nofirst = 0; first = first; nosecond = 0; second = second } ⌝ }
@@ -63,38 +60,20 @@ fn put_pairs(words: &mut [u32], at: usize, samples: &[u16]) -> usize
     next
 }
 
-// A channel's whole window.
-pub(crate) fn put_window(words: &mut [u32], at: usize, channel: u32, row: &[u16]) -> usize
-    requires { ⌜ length (now row) ≤ mostSamples ⌝ }
-    requires { ⌜ at + length (windowItems channel (now row)) ≤ length (now words) ⌝ }
-    ensures { λ r. ⌜ Written (now (words .entry)) at (wordsOf (windowItems channel (now (row .entry)))) r (now (words .exit)) ⌝ }
+// How many words a header and the pairs of so many samples are. No sum can wrap.
+pub fn run_length(samples: usize) -> usize
+    ensures { λ r. ⌜ r ≡ 1 + pairsOf samples ⌝ }
 {
-    let width = row.len() as u32;
-    let pairs = items::put::put_item(words, at, Item::Window(WindowRaw { channel, width }));
-    put_pairs(words, pairs, row)
+    1 + (samples / 2 + samples % 2)
 }
 
-// A pulse's data set.
-pub(crate) fn put_raw(
-    words: &mut [u32],
-    at: usize,
-    channel: u32,
-    row: &[u16],
-    i: u32,
-    pulse: Pulse,
-) -> usize
-    requires { ⌜ PulseFits (length (now row)) pulse × (length (now row) ≤ mostSamples) ⌝ }
-    requires { ⌜ at + length (rawItems channel (now row) i pulse) ≤ length (now words) ⌝ }
-    ensures { λ r. ⌜ Written (now (words .entry)) at (wordsOf (rawItems channel (now (row .entry)) i pulse)) r (now (words .exit)) ⌝ }
+// A header, and the samples behind it.
+pub fn put_run(words: &mut [u32], at: usize, header: Item, samples: &[u16]) -> usize
+    ensures { λ r. ⌜ WrittenIf true (now (words .entry)) at (wordsOf (header ∷ pairItems (now (samples .entry)))) r (now (words .exit)) ⌝ }
 {
-    let tc = pulse.tc as u32;
-    let raw = PulseRaw {
-        channel,
-        pulse: i,
-        tc,
-    };
-    let pairs = items::put::put_item(words, at, Item::Raw(raw));
-    let first = pulse.first - 1;
-    let last = pulse.last;
-    put_pairs(words, pairs, &row[first..last])
+    if items::put::room_short(words.len(), at, run_length(samples.len())) {
+        return at;
+    }
+    let pairs = items::put::put_item(words, at, header);
+    put_pairs(words, pairs, samples)
 }

@@ -1,4 +1,4 @@
--- `channel::pairs::put_pair` meets its contract: one store is a run of one word.
+-- `pairs::put_pair` meets its contract: one store is a run of one word.
 use mathlib.Core.Path.{refl, ap, _∙_}
 use mathlib.Core.List.{[], _∷_}
 use Prim.Native.Nat.{ℕ}
@@ -8,8 +8,8 @@ use Rattle.ground.specs.Splice.{splice}
 use Rattle.ground.specs.SpliceLaws.{set-splice}
 use Rattle.raw.specs.Words.{pair}
 use Rattle.items.specs.Items.{wordOf}
-use Rattle.channel.proofs.pairs.put_pair.Statement.{statement}
-use Rattle.channel.proofs.pairs.put_pair.Tie as tie
+use Rattle.pairs.proofs.put_pair.Statement.{statement}
+use Rattle.pairs.proofs.put_pair.Tie as tie
 
 returns : tie.Need-returns
 unfolding wordOf pair
