@@ -12,7 +12,8 @@ use Rattle.limits.specs.Limits.{mostSamples, pairsOf, mostRaw, mostPulse, mostC
 use Rattle.limits.specs.LimitsLaws.{most-raw, raw-is, pulse-is, channel-is, pairs-most}
 use Rattle.finder.specs.declared.Pulse.{Pulse}
 use Rattle.finder.specs.declared.Pulses.{Pulses}
-use Rattle.finder.specs.Find.{anyOver, searchable}
+use Rattle.search.specs.Search.{anyOver}
+use Rattle.finder.specs.Find.{searchable}
 use Rattle.finder.specs.FindLaws.{searched}
 use Rattle.finder.specs.RangeLaws.{PulseFits, EachFits, pulses-fit, pulses-count}
 use Rattle.channel.specs.declared.Parts.{Parts}

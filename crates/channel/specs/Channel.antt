@@ -6,7 +6,8 @@ use lib.ListN.{length, take, drop}
 use lib.Dec.{eqb, ltb}
 use Rattle.settings.specs.declared.Settings.{Settings}
 use Rattle.finder.specs.declared.Pulse.{Pulse}
-use Rattle.finder.specs.Find.{anyOver, pulsesFrom}
+use Rattle.search.specs.Search.{anyOver}
+use Rattle.finder.specs.Find.{pulsesFrom}
 use Rattle.pairs.specs.Pairs.{pairItems}
 use Rattle.items.specs.Items.{wordsOf, itemIf}
 use Rattle.items.specs.declared.Item.{Item}

@@ -6,7 +6,7 @@ use lib.ListN.{length, take}
 use Rattle.limits.specs.Limits.{pairsOf}
 use Rattle.finder.specs.declared.Pulse.{Pulse}
 use Rattle.finder.specs.declared.Pulses.{Pulses}
-use Rattle.finder.specs.Find.{anyOver}
+use Rattle.search.specs.Search.{anyOver}
 use Rattle.finder.specs.RangeLaws.{EachFits}
 use Rattle.channel.specs.declared.Parts.{Parts}
 use Rattle.channel.specs.Channel.{Common, partsOf, pulsesOf}

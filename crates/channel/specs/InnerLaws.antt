@@ -12,7 +12,8 @@ use Rattle.limits.specs.Limits.{mostSamples, pairsOf}
 use Rattle.settings.specs.declared.Settings.{Settings}
 use Rattle.finder.specs.declared.Pulse.{Pulse}
 use Rattle.finder.specs.declared.Pulses.{Pulses}
-use Rattle.finder.specs.Find.{anyOver, pulsesFrom, noPulse, packed, searchable, findAll}
+use Rattle.search.specs.Search.{anyOver}
+use Rattle.finder.specs.Find.{pulsesFrom, noPulse, packed, searchable, findAll}
 use Rattle.finder.specs.FindLaws.{find-all, Searched, searched, can-search}
 use Rattle.finder.specs.RangeLaws.{PulseFits, EachFits, fits-at, pulses-fit, pulses-count, packed-back}
 use Rattle.channel.specs.declared.Parts.{Parts}

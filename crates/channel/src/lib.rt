@@ -18,7 +18,8 @@ ghost use lib.Dec.{ltb};
 ghost use lib.ListN.{length};
 ghost use Rattle.ground.specs.Splice.{Written, WrittenIf};
 ghost use Rattle.limits.specs.Limits.{mostSamples};
-ghost use Rattle.finder.specs.Find.{anyOver, searchable, findAll};
+ghost use Rattle.search.specs.Search.{anyOver};
+ghost use Rattle.finder.specs.Find.{searchable, findAll};
 ghost use Rattle.finder.specs.RangeLaws.{PulseFits};
 ghost use Rattle.items.specs.Items.{wordOf, wordsOf};
 ghost use Rattle.channel.specs.Channel.{windowItems, rawItems, partsOf, pulseItems, pulsesItems, commonOf, channelItems, channelWords};
@@ -186,7 +187,7 @@ fn window_for(parts: Parts, threshold: u32, row: &[u16]) -> bool
     ensures { λ r. ⌜ r ≡ (parts .window && anyOver (now (row .entry)) threshold) ⌝ }
 {
     if parts.window {
-        finder::any_over(row, threshold)
+        search::any_over(row, threshold)
     } else {
         false
     }

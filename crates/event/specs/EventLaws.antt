@@ -19,7 +19,7 @@ use Rattle.limits.specs.LimitsLaws.{event-is}
 use Rattle.settings.specs.Ranges.{settingsOk}
 use Rattle.settings.specs.RangesLaws.{settings-in-range}
 use Rattle.samples.specs.Sample.{samplesOk}
-use Rattle.finder.specs.CallLaws.{range-searches}
+use Rattle.finder.specs.FindLaws.{range-searches}
 use Rattle.items.specs.Items.{wordsOf, itemIf}
 use Rattle.items.specs.declared.Item.{Item}
 use Rattle.items.specs.declared.Item.the-variants as I

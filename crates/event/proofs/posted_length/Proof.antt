@@ -2,7 +2,7 @@
 use lib.ListN.{length}
 use borrow.Author.Needs.{needs}
 use Rattle.settings.specs.RangesLaws.{settings-in-range}
-use Rattle.finder.specs.CallLaws.{range-searches}
+use Rattle.finder.specs.FindLaws.{range-searches}
 use Rattle.event.proofs.posted_length.Statement.{statement}
 use Rattle.event.proofs.posted_length.Tie as tie
 

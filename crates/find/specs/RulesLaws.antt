@@ -10,13 +10,14 @@ use lib.ListN.{length, getD}
 use Rattle.ground.specs.Tests.{firstOf}
 use Rattle.settings.specs.declared.Settings.{Settings}
 use Rattle.refusals.specs.Refusal.{numberOf}
+use Rattle.search.specs.Search.{tcFrom, early}
 use Rattle.finder.specs.declared.Rule.the-variants.{Early, Late, Flat}
 use Rattle.finder.specs.declared.Pulse.{Pulse}
-use Rattle.finder.specs.declared.FindAnswer.{FindAnswer}
-use Rattle.finder.specs.Find.{early, vmin, firstFall, tcOnly, edgeTime, afterFall, timeAt, ruleNumber, ruleTable, tcFrom, pulseAt, pulsesFrom, packed}
+use Rattle.find.specs.declared.FindAnswer.{FindAnswer}
+use Rattle.finder.specs.Find.{vmin, firstFall, tcOnly, edgeTime, afterFall, timeAt, ruleNumber, pulseAt, pulsesFrom, packed}
 use Rattle.finder.specs.RangeLaws.{pulses-count, packed-back}
-use Rattle.finder.specs.Call.{findNumber, channelPulses, foundPulses, rulesOf, foundRules, FindSays}
-use Rattle.finder.specs.CallLaws.{accepted, found-none, found-all}
+use Rattle.find.specs.Call.{findNumber, channelPulses, foundPulses, ruleTable, rulesOf, foundRules, FindSays}
+use Rattle.find.specs.CallLaws.{accepted, found-none, found-all}
 
 rule-first : (w : List ℕ) (t tc : ℕ) → ruleNumber (timeAt w t tc .rule) ≡ firstOf (ruleTable w t tc)
 unfolding timeAt afterFall edgeTime ruleTable firstOf
