@@ -6,19 +6,15 @@ use lib.ListN.{length, take, drop}
 use lib.Dec.{eqb, ltb}
 use Rattle.settings.specs.declared.Settings.{Settings}
 use Rattle.finder.specs.declared.Pulse.{Pulse}
-use Rattle.finder.specs.Find.{anyOver, pulsesFrom}
+use Rattle.search.specs.Search.{anyOver}
+use Rattle.finder.specs.Find.{pulsesFrom}
+use Rattle.pairs.specs.Pairs.{pairItems}
 use Rattle.items.specs.Items.{wordsOf, itemIf}
 use Rattle.items.specs.declared.Item.{Item}
 use Rattle.items.specs.declared.Item.the-variants as I
 use Rattle.channel.specs.declared.Parts.{Parts}
 
--- ---- pairs
-
--- "28-16 first sample, .. 12-0 second. An odd count sets bit 13 in the last pair with sample 0."
-abbrev pub pairItems : List ℕ → List Item
-pairItems [] = []
-pairItems (x ∷ []) = I.Pair (record { nofirst = 0; first = x; nosecond = 1; second = 0 }) ∷ []
-pairItems (x ∷ y ∷ r) = I.Pair (record { nofirst = 0; first = x; nosecond = 0; second = y }) ∷ pairItems r
+-- ---- samples
 
 -- type 4: the channel's whole window
 unfoldable pub windowItems : ℕ → List ℕ → List Item

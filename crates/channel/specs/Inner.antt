@@ -1,11 +1,12 @@
 -- What private functions of the channel writer say and ask; no public contract cites it. Assumes nothing.
-use Prim.Native.Nat.{ℕ, _+_, _-_, _/_, _≤_}
+use Prim.Native.Nat.{ℕ, _+_, _-_, _≤_}
 use mathlib.Core.Bool.{Bool, cond, _&&_, _||_}
 use mathlib.Core.List.{List, [], _∷_}
 use lib.ListN.{length, take}
+use Rattle.limits.specs.Limits.{pairsOf}
 use Rattle.finder.specs.declared.Pulse.{Pulse}
 use Rattle.finder.specs.declared.Pulses.{Pulses}
-use Rattle.finder.specs.Find.{anyOver}
+use Rattle.search.specs.Search.{anyOver}
 use Rattle.finder.specs.RangeLaws.{EachFits}
 use Rattle.channel.specs.declared.Parts.{Parts}
 use Rattle.channel.specs.Channel.{Common, partsOf, pulsesOf}
@@ -30,14 +31,11 @@ limitFor m limit = cond (ofPulses m) limit 0
 
 -- ---- how many words, without the words
 
-abbrev pub pairsFor : ℕ → ℕ
-pairsFor samples = (samples + 1) / 2
-
 abbrev pub oneIf : Bool → ℕ
 oneIf on = cond on 1 0
 
 unfoldable pub pulseLength : Parts → Pulse → ℕ
-pulseLength m p = cond (m .raw) (1 + pairsFor (p .last + 1 - p .first)) 0 + (oneIf (m .integral) + (oneIf (m .time) + oneIf (m .pedestal)))
+pulseLength m p = cond (m .raw) (1 + pairsOf (p .last + 1 - p .first)) 0 + (oneIf (m .integral) + (oneIf (m .time) + oneIf (m .pedestal)))
 
 unfoldable pub pulsesLength : Parts → List Pulse → ℕ
 pulsesLength m [] = 0
@@ -45,4 +43,4 @@ pulsesLength m (p ∷ ps) = pulseLength m p + pulsesLength m ps
 
 unfoldable pub channelLength : Common → ℕ → List ℕ → ℕ
 channelLength s t w =
-    cond (partsOf (s .mode) .window && anyOver w t) (1 + pairsFor (length w)) 0 + pulsesLength (partsOf (s .mode)) (pulsesOf s t w)
+    cond (partsOf (s .mode) .window && anyOver w t) (1 + pairsOf (length w)) 0 + pulsesLength (partsOf (s .mode)) (pulsesOf s t w)

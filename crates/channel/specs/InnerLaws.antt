@@ -5,20 +5,22 @@ use mathlib.Core.Bool.{Bool, true, false, cond, _&&_}
 use mathlib.Core.List.{List, [], _∷_, _++_}
 use native.Mathlib.Omega.{arith}
 use native.Mathlib.Numerals.{add-one}
-use lib.ListN.{length, getD, drop, replicate, drop-of-length-le, length-append, length-take, length-drop}
+use lib.ListN.{length, getD, take, drop, replicate, drop-of-length-le, length-append, length-take, length-drop}
 use lib.Seq.{drop-cons, getD-take, length-take-le, sets-eq}
 use Rattle.ground.specs.TestsLaws.{or-none}
-use Rattle.limits.specs.Limits.{mostSamples}
+use Rattle.limits.specs.Limits.{mostSamples, pairsOf}
 use Rattle.settings.specs.declared.Settings.{Settings}
 use Rattle.finder.specs.declared.Pulse.{Pulse}
 use Rattle.finder.specs.declared.Pulses.{Pulses}
-use Rattle.finder.specs.Find.{anyOver, pulsesFrom, noPulse, packed, searchable, findAll}
+use Rattle.search.specs.Search.{anyOver}
+use Rattle.finder.specs.Find.{pulsesFrom, noPulse, packed, searchable, findAll}
 use Rattle.finder.specs.FindLaws.{find-all, Searched, searched, can-search}
 use Rattle.finder.specs.RangeLaws.{PulseFits, EachFits, fits-at, pulses-fit, pulses-count, packed-back}
 use Rattle.channel.specs.declared.Parts.{Parts}
+use Rattle.pairs.specs.PairsLaws.{length-pairs}
 use Rattle.items.specs.declared.Item.{Item}
-use Rattle.channel.specs.Channel.{pairItems, windowItems, setOf, rawItems, integralItem, timeItem, pedestalItem, partsOf, pulseItems, pulsesItems, Common, commonOf, pulsesOf, channelItems}
-use Rattle.channel.specs.Inner.{listed, InWindow, ofPulses, limitFor, pairsFor, pulseLength, pulsesLength, channelLength}
+use Rattle.channel.specs.Channel.{windowItems, setOf, rawItems, integralItem, timeItem, pedestalItem, partsOf, pulseItems, pulsesItems, Common, commonOf, pulsesOf, channelItems}
+use Rattle.channel.specs.Inner.{listed, InWindow, ofPulses, limitFor, pulseLength, pulsesLength, channelLength}
 
 -- ---- the three places
 
@@ -64,31 +66,33 @@ place-set n found i d r l h =
 
 -- ---- how many words
 
-pub length-pairs : (w : List ℕ) → length (pairItems w) ≡ pairsFor (length w)
-length-pairs [] = refl
-length-pairs (x ∷ []) = refl
-length-pairs (x ∷ y ∷ r) = omega (arith, length-pairs r)
-
 pub length-set : (w : List ℕ) (p : Pulse) → PulseFits (length w) p → length (setOf w p) ≡ p .last + 1 - p .first
 unfolding setOf
 length-set w p o = simp (length-take, length-drop) (omega (arith, o .first .0, o .last .1))
+
+-- the part of the window from the set's first sample to its last
+pub part-set : (w : List ℕ) (p : Pulse) → 1 ≤ p .first → take (p .last - (p .first - 1)) (drop (p .first - 1) w) ≡ setOf w p
+unfolding setOf
+part-set w p h =
+    let e : p .last - (p .first - 1) ≡ p .last + 1 - p .first = omega arith in
+    rw e
 
 length-if : (on : Bool) (xs : List Item) (n : ℕ) → length xs ≡ n → length (cond on xs []) ≡ cond on n 0
 length-if true xs n e = e
 length-if false xs n e = refl
 
-pub length-window : (c : ℕ) (w : List ℕ) → length (windowItems c w) ≡ 1 + pairsFor (length w)
+pub length-window : (c : ℕ) (w : List ℕ) → length (windowItems c w) ≡ 1 + pairsOf (length w)
 unfolding windowItems
 length-window c w = omega (arith, length-pairs w)
 
-pub length-raw : (c : ℕ) (w : List ℕ) (i : ℕ) (p : Pulse) → PulseFits (length w) p → length (rawItems c w i p) ≡ 1 + pairsFor (p .last + 1 - p .first)
+pub length-raw : (c : ℕ) (w : List ℕ) (i : ℕ) (p : Pulse) → PulseFits (length w) p → length (rawItems c w i p) ≡ 1 + pairsOf (p .last + 1 - p .first)
 unfolding rawItems
-length-raw c w i p o = omega (arith, length-pairs (setOf w p), length-set w p o)
+length-raw c w i p o = omega (arith, length-pairs (setOf w p), ap pairsOf (length-set w p o))
 
 pub length-pulse : (m : Parts) (c : ℕ) (w : List ℕ) (i : ℕ) (p : Pulse) → PulseFits (length w) p → length (pulseItems m c w i p) ≡ pulseLength m p
 unfolding pulseItems pulseLength
 length-pulse m c w i p o =
-    let a = length-if (m .raw) (rawItems c w i p) (1 + pairsFor (p .last + 1 - p .first)) (length-raw c w i p o) in
+    let a = length-if (m .raw) (rawItems c w i p) (1 + pairsOf (p .last + 1 - p .first)) (length-raw c w i p o) in
     let b = length-if (m .integral) (integralItem c i p ∷ []) 1 refl in
     let d = length-if (m .time) (timeItem (m .high) c i p ∷ []) 1 refl in
     let e = length-if (m .pedestal) (pedestalItem c i p ∷ []) 1 refl in
@@ -106,7 +110,7 @@ unfolding channelItems channelLength
 length-channel s t c w h =
     let on : Bool = partsOf (s .mode) .window && anyOver w t in
     length-append (cond on (windowItems c w) []) (pulsesItems (partsOf (s .mode)) c w 0 (pulsesOf s t w))
-    ∙ ap₂ (λ (a b : ℕ). a + b) (length-if on (windowItems c w) (1 + pairsFor (length w)) (length-window c w))
+    ∙ ap₂ (λ (a b : ℕ). a + b) (length-if on (windowItems c w) (1 + pairsOf (length w)) (length-window c w))
     (length-pulses (partsOf (s .mode)) c w 0 (pulsesOf s t w) (pulses-fit w t (s .nsb) (s .nsa) (s .limit) 0 h))
 
 -- the channel's number does not count
@@ -189,7 +193,7 @@ is-found s t w m found ok e = go (ofPulses m) refl
 
 -- the count from the numbers that the code has
 pub channel-counted : (s : Settings) (t : ℕ) (w : List ℕ) (m : Parts) (on : Bool) (found : Pulses) (a b : ℕ) → m ≡ partsOf (s .mode)
-    → on ≡ (m .window && anyOver w t) → IsFound s t w m found → a ≡ cond on (1 + pairsFor (length w)) 0 → b ≡ pulsesLength m (listed found)
+    → on ≡ (m .window && anyOver w t) → IsFound s t w m found → a ≡ cond on (1 + pairsOf (length w)) 0 → b ≡ pulsesLength m (listed found)
     → a + b ≡ channelLength (commonOf s) t w
 unfolding channelLength
 channel-counted s t w m on found a b p o f ha hb = rw (ha, hb, f .size, o, p)

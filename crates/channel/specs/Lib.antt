@@ -1,6 +1,5 @@
 pub mod Channel
 pub mod Inner
 pub mod InnerLaws
-pub mod PairsLaws
 pub mod PulsesLaws
 pub mod BoundLaws

@@ -1,12 +1,14 @@
 // The words of one channel, put into a lent buffer.
 mod count;
 mod measure;
-mod pairs;
 
 use finder::Pulse;
 use finder::Pulses;
+use items::Item;
 use items::put::put_if;
 use items::put::room_short;
+use raw::pulse_raw::PulseRaw;
+use raw::window::WindowRaw;
 use settings::Settings;
 ghost use mathlib.Core.Path.{_≡_};
 ghost use mathlib.Core.Bool.{true, cond, _&&_};
@@ -16,14 +18,12 @@ ghost use lib.Dec.{ltb};
 ghost use lib.ListN.{length};
 ghost use Rattle.ground.specs.Splice.{Written, WrittenIf};
 ghost use Rattle.limits.specs.Limits.{mostSamples};
-ghost use Rattle.finder.specs.Find.{anyOver, searchable, findAll};
+ghost use Rattle.search.specs.Search.{anyOver};
+ghost use Rattle.finder.specs.Find.{searchable, findAll};
 ghost use Rattle.finder.specs.RangeLaws.{PulseFits};
 ghost use Rattle.items.specs.Items.{wordOf, wordsOf};
 ghost use Rattle.channel.specs.Channel.{windowItems, rawItems, partsOf, pulseItems, pulsesItems, commonOf, channelItems, channelWords};
 ghost use Rattle.channel.specs.Inner.{listed, InWindow, limitFor, channelLength};
-
-// The most words of a channel.
-const MOST_CHANNEL: usize = 753;
 
 // What a mode writes: the window, and of each pulse its samples, integral, time (high-resolution or TC) and pedestal.
 pub struct Parts {
@@ -78,7 +78,15 @@ fn put_raw_if(
     ensures { λ r. ⌜ Written (now (words .entry)) at (wordsOf (cond on (rawItems channel (now (row .entry)) i pulse) [])) r (now (words .exit)) ⌝ }
 {
     if on {
-        pairs::put_raw(words, at, channel, row, i, pulse)
+        let tc = pulse.tc as u32;
+        let raw = PulseRaw {
+            channel,
+            pulse: i,
+            tc,
+        };
+        let first = pulse.first - 1;
+        let last = pulse.last;
+        pairs::put_run(words, at, Item::Raw(raw), &row[first..last])
     } else {
         at
     }
@@ -149,7 +157,8 @@ fn put_window_if(words: &mut [u32], at: usize, on: bool, channel: u32, row: &[u1
     ensures { λ r. ⌜ Written (now (words .entry)) at (wordsOf (cond on (windowItems channel (now (row .entry))) [])) r (now (words .exit)) ⌝ }
 {
     if on {
-        pairs::put_window(words, at, channel, row)
+        let width = row.len() as u32;
+        pairs::put_run(words, at, Item::Window(WindowRaw { channel, width }), row)
     } else {
         at
     }
@@ -178,7 +187,7 @@ fn window_for(parts: Parts, threshold: u32, row: &[u16]) -> bool
     ensures { λ r. ⌜ r ≡ (parts .window && anyOver (now (row .entry)) threshold) ⌝ }
 {
     if parts.window {
-        finder::any_over(row, threshold)
+        search::any_over(row, threshold)
     } else {
         false
     }
@@ -220,7 +229,7 @@ fn channel_short(room: usize, at: usize, settings: Settings, threshold: u32, row
     requires { ⌜ searchable (length (now row)) (settings .nsa) (settings .limit) ≡ true ⌝ }
     ensures { λ r. ⌜ r ≡ ltb room (at + channelLength (commonOf settings) threshold (now (row .entry))) ⌝ }
 {
-    if !room_short(room, at, MOST_CHANNEL) {
+    if !room_short(room, at, limits::MOST_CHANNEL) {
         return false;
     }
     room_short(room, at, count_found(settings, threshold, row))

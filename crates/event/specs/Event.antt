@@ -5,6 +5,7 @@ use mathlib.Core.List.{List, [], _∷_, _++_}
 use lib.ListN.{length, getD, take, drop}
 use lib.Dec.{leb}
 use Rattle.ground.specs.Tests.{allOf}
+use Rattle.limits.specs.Limits.{channels}
 use Rattle.settings.specs.declared.Settings.{Settings}
 use Rattle.settings.specs.Ranges.{settingsOk}
 use Rattle.samples.specs.Sample.{samplesOk}
@@ -19,7 +20,7 @@ row nw c store = take nw (drop (c * nw) store)
 
 -- what is lent is enough for an event: settings in range, a mark for each of at most sixteen channels, and those 16 rows
 unfoldable pub lentOk : Settings → List Bool → List ℕ → Bool
-lentOk s posted store = allOf (settingsOk s ∷ leb (length posted) 16 ∷ leb (16 * s .nw) (length store) ∷ [])
+lentOk s posted store = allOf (settingsOk s ∷ leb (length posted) channels ∷ leb (channels * s .nw) (length store) ∷ [])
 
 -- no sample over 8,191 "in a posted channel's row of the store then lent", from channel c on
 unfoldable pub rowsOk : ℕ → List ℕ → ℕ → List Bool → Bool

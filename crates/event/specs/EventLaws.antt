@@ -14,11 +14,12 @@ use Rattle.ground.specs.Splice.{Written}
 use Rattle.ground.specs.WritingLaws.{Left}
 use Rattle.ground.specs.TestsLaws.{every, all-of}
 use Rattle.settings.specs.declared.Settings.{Settings}
-use Rattle.limits.specs.Limits.{mostSamples}
+use Rattle.limits.specs.Limits.{mostSamples, mostChannel, channels, mostEvent}
+use Rattle.limits.specs.LimitsLaws.{event-is}
 use Rattle.settings.specs.Ranges.{settingsOk}
 use Rattle.settings.specs.RangesLaws.{settings-in-range}
 use Rattle.samples.specs.Sample.{samplesOk}
-use Rattle.finder.specs.CallLaws.{range-searches}
+use Rattle.finder.specs.FindLaws.{range-searches}
 use Rattle.items.specs.Items.{wordsOf, itemIf}
 use Rattle.items.specs.declared.Item.{Item}
 use Rattle.items.specs.declared.Item.the-variants as I
@@ -34,13 +35,13 @@ use Rattle.event.specs.Inner.{Lent, eventLength}
 pub lent-says : (s : Settings) (posted : List Bool) (store : List ℕ) → lentOk s posted store ≡ true → Lent s posted store
 unfolding lentOk
 lent-says s posted store h =
-    let e = every (settingsOk s ∷ leb (length posted) 16 ∷ leb (16 * s .nw) (length store) ∷ []) h in
+    let e = every (settingsOk s ∷ leb (length posted) channels ∷ leb (channels * s .nw) (length store) ∷ []) h in
     record { settings = e .0; marks = leb-true _ _ (e .1 .0); rows = leb-true _ _ (e .1 .1 .0) }
 
 pub lent-enough : (s : Settings) (posted : List Bool) (store : List ℕ) → Lent s posted store → lentOk s posted store ≡ true
 unfolding lentOk
 lent-enough s posted store l =
-    all-of (settingsOk s ∷ leb (length posted) 16 ∷ leb (16 * s .nw) (length store) ∷ [])
+    all-of (settingsOk s ∷ leb (length posted) channels ∷ leb (channels * s .nw) (length store) ∷ [])
     (l .settings, (le-leb _ _ (l .marks), (le-leb _ _ (l .rows), tt)))
 
 -- ---- a row
@@ -52,7 +53,7 @@ row-end c n nw h = rw (← suc-mul c nw) (mul-le-mul-right nw h)
 module _ (s : Settings) (posted : List Bool) (store : List ℕ) (lent : Lent s posted store) where
   -- it lies in the store
   pub row-inside : (c : ℕ) → c < length posted → c * s .nw + s .nw ≤ length store
-  row-inside c h = omega (arith, row-end c 16 (s .nw) (omega (arith, lent .marks)), lent .rows)
+  row-inside c h = omega (arith, row-end c channels (s .nw) (omega (arith, lent .marks)), lent .rows)
 
   pub row-short : (c : ℕ) → length (take (c * s .nw + s .nw - c * s .nw) (drop (c * s .nw) store)) ≤ mostSamples
   row-short c = simp length-take (omega (arith, settings-in-range s (lent .settings) .nw .1))
@@ -145,9 +146,9 @@ module _ (s : Settings) (store : List ℕ) (posted : List Bool) (ok : settingsOk
   pub count-end : length posted ≤ c → n ≡ length (channelsItems s store 0 posted)
   count-end h = let k = rw (channels-end s store posted c h) at so-far in omega (arith, k)
 
--- a posted channel is at most 753 words
-pub posted-most : (s : Settings) (t : ℕ) (w : List ℕ) (b : Bool) → settingsOk s ≡ true → length w ≤ mostSamples
-    → cond b (length (channelItems (commonOf s) t 0 w)) 0 ≤ 753
+-- a posted channel is no longer than the longest
+posted-most : (s : Settings) (t : ℕ) (w : List ℕ) (b : Bool) → settingsOk s ≡ true → length w ≤ mostSamples
+    → cond b (length (channelItems (commonOf s) t 0 w)) 0 ≤ mostChannel
 posted-most s t w true ok h =
     let r = settings-in-range s ok in
     rw (length-channel (commonOf s) t 0 w (r .nsa .0)) (channel-most s t w (range-searches s (length w) r h))
@@ -178,7 +179,7 @@ unfolding eventItems eventLength
 length-event s number time posted store ok =
     omega (arith, length-append (timeItems (s .times) time) (channelsItems s store 0 posted), length-times (s .times) time (settings-in-range s ok .times))
 
-length-channels : (s : Settings) (store : List ℕ) (c : ℕ) (posted : List Bool) → settingsOk s ≡ true → length (channelsItems s store c posted) ≤ length posted * 753
+length-channels : (s : Settings) (store : List ℕ) (c : ℕ) (posted : List Bool) → settingsOk s ≡ true → length (channelsItems s store c posted) ≤ length posted * mostChannel
 unfolding channelsItems row
 length-channels s store c [] ok = omega arith
 length-channels s store c (m ∷ ms) ok =
@@ -193,10 +194,14 @@ length-channels s store c (m ∷ ms) ok =
       length-append (cond m (channelItems (commonOf s) t c w) []) (channelsItems s store (c + 1) ms),
     )
 
+pub channels-most : (s : Settings) (posted : List Bool) (store : List ℕ) → settingsOk s ≡ true → length posted ≤ channels
+    → length (channelsItems s store 0 posted) ≤ channels * mostChannel
+channels-most s posted store ok h = omega (arith, length-channels s store 0 posted ok, mul-le-mul-right mostChannel h)
+
 -- "an event at most 12,051" words, and at least its header and time words
-pub event-most : (s : Settings) (posted : List Bool) (store : List ℕ) → settingsOk s ≡ true → length posted ≤ 16 → eventLength s posted store ≤ 12051
+pub event-most : (s : Settings) (posted : List Bool) (store : List ℕ) → settingsOk s ≡ true → length posted ≤ channels → eventLength s posted store ≤ mostEvent
 unfolding eventLength
-event-most s posted store ok h = omega (arith, length-channels s store 0 posted ok, settings-in-range s ok .times)
+event-most s posted store ok h = omega (arith, event-is, channels-most s posted store ok h, settings-in-range s ok .times)
 
 pub event-least : (s : Settings) (posted : List Bool) (store : List ℕ) → 1 + s .times ≤ eventLength s posted store
 unfolding eventLength

@@ -3,6 +3,7 @@ use framing::event_header::EventHeader;
 use framing::trigger_time::TriggerTime;
 use framing::trigger_time_high::TriggerTimeHigh;
 use items::Item;
+use limits::CHANNELS;
 use settings::Settings;
 ghost use mathlib.Core.Path.{_≡_};
 ghost use mathlib.Core.Bool.{true, cond, not, _&&_, _||_};
@@ -19,15 +20,17 @@ ghost use Rattle.channel.specs.Channel.{commonOf, channelItems};
 ghost use Rattle.event.specs.Event.{lentOk, rowsOk, timeItems, channelsItems, eventItems};
 ghost use Rattle.event.specs.Inner.{Lent, eventLength};
 
-// The most words of an event.
-pub const MOST_EVENT: usize = 12051;
+// A time has 48 bits: three of the first time word above its lowest 24, and the second word's 24.
+const TIME_MAX: u64 = 281474976710655;
+
+const BIT_24: u64 = 16777216;
 
 // What is lent is enough for an event: settings in range, at most sixteen marks, sixteen rows. The quotient cannot wrap, whatever NW says.
 fn lent(settings: Settings, posted: &[bool], store: &[u16]) -> bool
     ensures { λ r. ⌜ r ≡ lentOk settings (now (posted .entry)) (now (store .entry)) ⌝ }
 {
     let good = settings::in_range(settings);
-    good & (posted.len() <= 16) & (settings.nw <= store.len() / 16)
+    good & (posted.len() <= CHANNELS) & (settings.nw <= store.len() / CHANNELS)
 }
 
 // A posted channel's row has no sample over the greatest; no other row is looked at.
@@ -129,12 +132,12 @@ fn put_times(words: &mut [u32], at: usize, times: u32, time: u64) -> usize
     ensures { λ r. ⌜ Written (now (words .entry)) at (wordsOf (timeItems times time)) r (now (words .exit)) ⌝ }
 {
     let low = TriggerTime {
-        middle: (time / 16777216 % 8) as u32,
-        low: (time % 16777216) as u32,
+        middle: (time / BIT_24 % 8) as u32,
+        low: (time % BIT_24) as u32,
     };
     let second = items::put::put_if(words, at, 1 <= times, Item::Clock(low));
     let high = TriggerTimeHigh {
-        high: (time / 16777216) as u32,
+        high: (time / BIT_24) as u32,
     };
     items::put::put_if(words, second, 2 <= times, Item::ClockHigh(high))
 }
@@ -164,7 +167,7 @@ fn put_lent(
 
 fn posted_length(settings: Settings, posted: bool, threshold: u32, row: &[u16]) -> usize
     requires { ⌜ (settingsOk settings ≡ true) × (length (now row) ≤ mostSamples) ⌝ }
-    ensures { λ r. ⌜ (r ≡ cond posted (length (channelItems (commonOf settings) threshold 0 (now (row .entry)))) 0) × (r ≤ 753) ⌝ }
+    ensures { λ r. ⌜ r ≡ cond posted (length (channelItems (commonOf settings) threshold 0 (now (row .entry)))) 0 ⌝ }
 {
     if posted {
         channel::channel_length(settings, threshold, row)
@@ -175,7 +178,7 @@ fn posted_length(settings: Settings, posted: bool, threshold: u32, row: &[u16]) 
 
 fn channels_length(settings: Settings, posted: &[bool], store: &[u16]) -> usize
     requires { ⌜ Lent settings (now posted) (now store) ⌝ }
-    ensures { λ r. ⌜ (r ≡ length (channelsItems settings (now (store .entry)) 0 (now (posted .entry)))) × (r ≤ 12048) ⌝ }
+    ensures { λ r. ⌜ r ≡ length (channelsItems settings (now (store .entry)) 0 (now (posted .entry))) ⌝ }
 {
     let thresholds = settings.thresholds;
     let nw = settings.nw;
@@ -208,7 +211,7 @@ fn event_short(room: usize, at: usize, settings: Settings, posted: &[bool], stor
     requires { ⌜ Lent settings (now posted) (now store) ⌝ }
     ensures { λ r. ⌜ r ≡ ltb room (at + eventLength settings (now (posted .entry)) (now (store .entry))) ⌝ }
 {
-    if !items::put::room_short(room, at, MOST_EVENT) {
+    if !items::put::room_short(room, at, limits::MOST_EVENT) {
         return false;
     }
     items::put::room_short(room, at, event_length(settings, posted, store))
@@ -226,7 +229,7 @@ pub fn put_event(
 ) -> usize
     ensures { λ r. ⌜ WrittenIf (lentOk settings (now (posted .entry)) (now (store .entry)) && leb time (2 ^ 48 - 1)) (now (words .entry)) at (wordsOf (eventItems settings number time (now (posted .entry)) (now (store .entry)))) r (now (words .exit)) ⌝ }
 {
-    if !(lent(settings, posted, store) & (time <= 281474976710655)) {
+    if !(lent(settings, posted, store) & (time <= TIME_MAX)) {
         return at;
     }
     if event_short(words.len(), at, settings, posted, store) {

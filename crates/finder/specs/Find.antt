@@ -1,54 +1,20 @@
--- The pulses of one window: document 01, "Finding pulses". "Samples are numbered from 1", so 0 says that a search found none. Assumes nothing.
+-- The pulses of one window: document 01, "Finding pulses". Assumes nothing.
 use Prim.Native.Nat.{ℕ, zero, suc, _+_, _-_, _*_, _/_, min, max}
-use mathlib.Core.Bool.{Bool, true, not, _&&_, _||_, cond}
+use mathlib.Core.Bool.{Bool, cond}
 use mathlib.Core.List.{List, [], _∷_}
-use lib.ListN.{length, getD, replicate}
+use lib.ListN.{length, replicate}
 use lib.Seq.{sets}
 use lib.Dec.{ltb, leb, eqb}
 use Rattle.ground.specs.Search.{least, greatest, sumOver}
 use Rattle.ground.specs.Tests.{allOf}
 use Rattle.limits.specs.Limits.{mostSamples}
-use Rattle.samples.specs.Sample.{amp}
+use Rattle.settings.specs.Ranges.{mostNsa, mostLimit}
+use Rattle.search.specs.Search.{ampAt, tcFrom, early}
 use Rattle.finder.specs.declared.Rule.{Rule}
 use Rattle.finder.specs.declared.Rule.the-variants.{Early, Late, Flat, Edge}
 use Rattle.finder.specs.declared.Time.{Time}
 use Rattle.finder.specs.declared.Pulse.{Pulse}
 use Rattle.finder.specs.declared.Pulses.{Pulses}
-
--- V(k), the amplitude of sample k
-unfoldable pub ampAt : List ℕ → ℕ → ℕ
-ampAt w k = amp (getD w (k - 1) 0)
-
--- ---- where a pulse is
-
--- ""Over" means V greater than the threshold."
-unfoldable pub over : List ℕ → ℕ → ℕ → Bool
-over w t k = ltb t (ampAt w k)
-
--- "First pulse: TC is the least number that is over." Of the first n samples.
-unfoldable pub firstOver : List ℕ → ℕ → ℕ → ℕ
-firstOver w t n = least (over w t) 0 n
-
--- one of the first n samples is over
-unfoldable pub overIn : List ℕ → ℕ → ℕ → Bool
-overIn w t n = ltb 0 (firstOver w t n)
-
--- "if any sample is over"
-abbrev pub anyOver : List ℕ → ℕ → Bool
-anyOver w t = overIn w t (length w)
-
--- "that is over and whose neighbour k-1 is not over"
-unfoldable pub starts : List ℕ → ℕ → ℕ → Bool
-starts w t k = over w t k && not (over w t (k - 1))
-
--- "Next pulse: with s = TC + NSA, the next TC is the least k, s < k <= NW, that is over and whose neighbour k-1 is not over."
-unfoldable pub nextTc : List ℕ → ℕ → ℕ → ℕ
-nextTc w t s = least (starts w t) s (length w)
-
--- the TC that the search from s finds; s is 0 for the first pulse
-unfoldable pub tcFrom : List ℕ → ℕ → ℕ → ℕ
-tcFrom w t zero = firstOver w t (length w)
-tcFrom w t (suc s) = nextTc w t (suc s)
 
 -- ---- its data set
 
@@ -64,10 +30,6 @@ unfoldable pub integral : List ℕ → ℕ → ℕ → ℕ
 integral w first last = sumOver (ampAt w) (first - 1) last
 
 -- ---- its high-resolution time
-
--- "1. NW < 4, or one of the first four samples is over"
-unfoldable pub early : List ℕ → ℕ → Bool
-early w t = ltb (length w) 4 || overIn w t 4
 
 -- "VMIN = floor(sum of the first four V / 4)."
 unfoldable pub vmin : List ℕ → ℕ
@@ -126,10 +88,6 @@ ruleNumber Late = 2
 ruleNumber Flat = 3
 ruleNumber Edge = 4
 
--- the same as a table, "checked in this order": rows of a rule's number and when it holds
-unfoldable pub ruleTable : List ℕ → ℕ → ℕ → List (ℕ × Bool)
-ruleTable w t tc = (1, early w t) ∷ (2, ltb (length w - tc) 5) ∷ (3, eqb (firstFall w tc) 0) ∷ (4, true) ∷ []
-
 -- ---- all pulses
 
 -- the pulse at TC
@@ -156,7 +114,7 @@ packed l = record { count = length l; pulses = sets (replicate 3 noPulse) 0 l }
 
 -- what settings in range say of a search: the samples, NSA and the limit
 unfoldable pub searchable : ℕ → ℕ → ℕ → Bool
-searchable n nsa limit = allOf (leb n mostSamples ∷ leb 1 nsa ∷ leb nsa 511 ∷ leb limit 3 ∷ [])
+searchable n nsa limit = allOf (leb n mostSamples ∷ leb 1 nsa ∷ leb nsa mostNsa ∷ leb limit mostLimit ∷ [])
 
 -- the pulses alone, for a caller that made the refusals itself
 unfoldable pub findAll : List ℕ → ℕ → ℕ → ℕ → ℕ → Pulses

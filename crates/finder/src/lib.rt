@@ -1,15 +1,17 @@
-// The pulse finder: document 01, "Finding pulses". Samples are numbered from 1, so 0 says that a search found none.
-use refusals::Refusal;
-use settings::Settings;
+// The pulse finder: document 01, "Finding pulses".
+use settings::LIMIT_MAX;
+use settings::NSA_MAX;
 ghost use mathlib.Core.Path.{_≡_};
 ghost use Prim.Native.Nat.{_≤_};
 ghost use mathlib.Core.List.{[]};
 ghost use lib.ListN.{length};
 ghost use Rattle.limits.specs.Limits.{mostSamples};
-ghost use Rattle.refusals.specs.Refusal.{numberOf};
-ghost use Rattle.finder.specs.Find.{ampAt, over, firstOver, overIn, anyOver, nextTc, tcFrom, setFirst, setLast, integral, early, vmin, firstFall, n1, edgeTime, tcOnly, timeAt, pulseAt, pulsesFrom, noPulse, packed, searchable, findAll, ruleNumber};
-ghost use Rattle.finder.specs.Call.{findNumber, FindSays};
-ghost use Rattle.finder.specs.Asked.{IsOver, HasEdge};
+ghost use Rattle.settings.specs.Ranges.{mostNsa, mostLimit};
+ghost use Rattle.samples.specs.Sample.{mostAmp};
+ghost use Rattle.search.specs.Search.{ampAt};
+ghost use Rattle.search.specs.Asked.{IsOver};
+ghost use Rattle.finder.specs.Find.{setFirst, setLast, integral, vmin, firstFall, n1, edgeTime, tcOnly, timeAt, pulseAt, pulsesFrom, noPulse, packed, searchable, findAll, ruleNumber};
+ghost use Rattle.finder.specs.Asked.{HasEdge};
 
 // Which rule of the high-resolution time gave it: 1, 2, 3 and 4 in the paper's order.
 pub enum Rule {
@@ -43,12 +45,6 @@ pub struct Pulses {
     pub pulses: [Pulse; 3],
 }
 
-// The finder's answer: a refused call has no pulses.
-pub struct Answer {
-    pub refusal: Refusal,
-    pub found: Pulses,
-}
-
 // The paper's number of a rule.
 pub fn rule_number(rule: Rule) -> u32
     ensures { λ r. ⌜ r ≡ ruleNumber rule ⌝ }
@@ -64,79 +60,9 @@ pub fn rule_number(rule: Rule) -> u32
 // The amplitude of sample k.
 fn amp_at(window: &[u16], k: usize) -> u32
     requires { ⌜ (1 ≤ k) × (k ≤ length (now window)) ⌝ }
-    ensures { λ r. ⌜ (r ≡ ampAt (now (window .entry)) k) × (r ≤ 4095) ⌝ }
+    ensures { λ r. ⌜ (r ≡ ampAt (now (window .entry)) k) × (r ≤ mostAmp) ⌝ }
 {
     samples::amplitude(window[k - 1])
-}
-
-// Sample k is over the threshold.
-fn is_over(window: &[u16], threshold: u32, k: usize) -> bool
-    requires { ⌜ (1 ≤ k) × (k ≤ length (now window)) ⌝ }
-    ensures { λ r. ⌜ r ≡ over (now (window .entry)) threshold k ⌝ }
-{
-    threshold < amp_at(window, k)
-}
-
-// The first of the first n samples that is over.
-fn first_over(window: &[u16], threshold: u32, n: usize) -> usize
-    requires { ⌜ n ≤ length (now window) ⌝ }
-    ensures { λ r. ⌜ r ≡ firstOver (now (window .entry)) threshold n ⌝ }
-{
-    let mut k = 0;
-    while k < n {
-        k += 1;
-        if is_over(window, threshold, k) {
-            return k;
-        }
-    }
-    0
-}
-
-// One of the first n samples is over.
-fn over_in(window: &[u16], threshold: u32, n: usize) -> bool
-    requires { ⌜ n ≤ length (now window) ⌝ }
-    ensures { λ r. ⌜ r ≡ overIn (now (window .entry)) threshold n ⌝ }
-{
-    0 < first_over(window, threshold, n)
-}
-
-// Any sample of the window is over.
-pub fn any_over(window: &[u16], threshold: u32) -> bool
-    ensures { λ r. ⌜ r ≡ anyOver (now (window .entry)) threshold ⌝ }
-{
-    over_in(window, threshold, window.len())
-}
-
-// The TC after s of a pulse that is not the first: over, and its neighbour is not. The neighbour's test is kept, so each sample is read once.
-fn next_tc(window: &[u16], threshold: u32, s: usize) -> usize
-    requires { ⌜ 1 ≤ s ⌝ }
-    ensures { λ r. ⌜ r ≡ nextTc (now (window .entry)) threshold s ⌝ }
-{
-    if window.len() <= s {
-        return 0;
-    }
-    let mut k = s;
-    let mut was_over = is_over(window, threshold, k);
-    while k < window.len() {
-        k += 1;
-        let now_over = is_over(window, threshold, k);
-        if now_over & !was_over {
-            return k;
-        }
-        was_over = now_over;
-    }
-    0
-}
-
-// The TC that the search from s finds; s is 0 for the first pulse.
-fn tc_from(window: &[u16], threshold: u32, s: usize) -> usize
-    ensures { λ r. ⌜ r ≡ tcFrom (now (window .entry)) threshold s ⌝ }
-{
-    if s == 0 {
-        first_over(window, threshold, window.len())
-    } else {
-        next_tc(window, threshold, s)
-    }
 }
 
 // The first sample of the data set.
@@ -148,7 +74,7 @@ fn set_first(tc: usize, nsb: usize) -> usize
 
 // The last sample of the data set.
 fn set_last(tc: usize, nsa: usize, nw: usize) -> usize
-    requires { ⌜ (1 ≤ tc) × (tc ≤ mostSamples) × (nsa ≤ 511) ⌝ }
+    requires { ⌜ (1 ≤ tc) × (tc ≤ mostSamples) × (nsa ≤ mostNsa) ⌝ }
     ensures { λ r. ⌜ r ≡ setLast tc nsa nw ⌝ }
 {
     let end = tc + nsa - 1;
@@ -167,17 +93,6 @@ fn integral_of(window: &[u16], first: usize, last: usize) -> u32
         sum += amp_at(window, k);
     }
     sum
-}
-
-// Fewer than four samples, or one of the first four is over.
-fn is_early(window: &[u16], threshold: u32) -> bool
-    ensures { λ r. ⌜ r ≡ early (now (window .entry)) threshold ⌝ }
-{
-    if window.len() < 4 {
-        true
-    } else {
-        over_in(window, threshold, 4)
-    }
 }
 
 // A quarter of the sum of the first four.
@@ -259,7 +174,7 @@ fn time_at(window: &[u16], threshold: u32, tc: usize) -> Time
     requires { ⌜ length (now window) ≤ mostSamples ⌝ }
     ensures { λ r. ⌜ r ≡ timeAt (now (window .entry)) threshold tc ⌝ }
 {
-    if is_early(window, threshold) {
+    if search::is_early(window, threshold) {
         return tc_only(tc, 0, Rule::Early);
     }
     let low = vmin_of(window);
@@ -276,7 +191,7 @@ fn time_at(window: &[u16], threshold: u32, tc: usize) -> Time
 // The pulse at tc.
 fn pulse_at(window: &[u16], threshold: u32, nsb: usize, nsa: usize, tc: usize) -> Pulse
     requires { ⌜ IsOver (now window) threshold tc ⌝ }
-    requires { ⌜ (length (now window) ≤ mostSamples) × (nsa ≤ 511) ⌝ }
+    requires { ⌜ (length (now window) ≤ mostSamples) × (nsa ≤ mostNsa) ⌝ }
     ensures { λ r. ⌜ r ≡ pulseAt (now (window .entry)) threshold nsb nsa tc ⌝ }
 {
     let first = set_first(tc, nsb);
@@ -306,7 +221,7 @@ fn no_pulse() -> Pulse
     }
 }
 
-fn no_pulses() -> Pulses
+pub fn no_pulses() -> Pulses
     ensures { λ r. ⌜ r ≡ packed [] ⌝ }
 {
     let none = no_pulse();
@@ -318,7 +233,7 @@ fn no_pulses() -> Pulses
 
 // Every pulse of the window, up to the limit. No search begins once the limit is reached.
 fn all_pulses(window: &[u16], threshold: u32, nsb: usize, nsa: usize, limit: usize) -> Pulses
-    requires { ⌜ (length (now window) ≤ mostSamples) × (1 ≤ nsa) × (nsa ≤ 511) × (limit ≤ 3) ⌝ }
+    requires { ⌜ (length (now window) ≤ mostSamples) × (1 ≤ nsa) × (nsa ≤ mostNsa) × (limit ≤ mostLimit) ⌝ }
     ensures { λ r. ⌜ r ≡ packed (pulsesFrom (now (window .entry)) threshold nsb nsa limit 0) ⌝ }
 {
     let none = no_pulse();
@@ -326,7 +241,7 @@ fn all_pulses(window: &[u16], threshold: u32, nsb: usize, nsa: usize, limit: usi
     let mut count = 0;
     let mut s = 0;
     while count < limit {
-        let tc = tc_from(window, threshold, s);
+        let tc = search::tc_from(window, threshold, s);
         if tc == 0 {
             return Pulses { count, pulses };
         }
@@ -341,7 +256,7 @@ fn all_pulses(window: &[u16], threshold: u32, nsb: usize, nsa: usize, limit: usi
 pub fn can_search(samples: usize, nsa: usize, limit: usize) -> bool
     ensures { λ r. ⌜ r ≡ searchable samples nsa limit ⌝ }
 {
-    (samples <= limits::MOST_SAMPLES) & (1 <= nsa) & (nsa <= 511) & (limit <= 3)
+    (samples <= limits::MOST_SAMPLES) & (1 <= nsa) & (nsa <= NSA_MAX) & (limit <= LIMIT_MAX)
 }
 
 // The pulses alone, for a caller that made the refusals itself. Numbers that no settings in range have give none.
@@ -353,44 +268,4 @@ pub fn pulses_of(window: &[u16], threshold: u32, nsb: usize, nsa: usize, limit: 
     } else {
         no_pulses()
     }
-}
-
-// Why the finder refuses, in the paper's order.
-fn refusal_of(settings: Settings, channel: usize, window: &[u16]) -> Refusal
-    ensures { λ r. ⌜ numberOf r ≡ findNumber settings channel (now (window .entry)) ⌝ }
-{
-    if !settings::in_range(settings) {
-        return Refusal::Setting;
-    }
-    if 15 < channel {
-        return Refusal::Channel;
-    }
-    if window.len() != settings.nw {
-        return Refusal::Length;
-    }
-    if !samples::samples_ok(window) {
-        return Refusal::Sample;
-    }
-    Refusal::None
-}
-
-// The pulses of one channel's window, or why there are none.
-pub fn find(settings: Settings, channel: usize, window: &[u16]) -> Answer
-    ensures { λ r. ⌜ FindSays settings channel (now (window .entry)) r ⌝ }
-{
-    let refusal = refusal_of(settings, channel, window);
-    if !refusals::accepted(refusal) {
-        let found = no_pulses();
-        return Answer { refusal, found };
-    }
-    let thresholds = settings.thresholds;
-    let threshold = thresholds[channel];
-    let found = all_pulses(
-        window,
-        threshold,
-        settings.nsb,
-        settings.nsa,
-        settings.limit,
-    );
-    Answer { refusal, found }
 }

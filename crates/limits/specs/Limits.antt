@@ -2,7 +2,7 @@
 use Prim.Native.Nat.{ℕ, _+_, _*_, _/_}
 
 -- "NW, samples per window, 1 to 500"
-abbrev pub mostSamples : ℕ
+unfoldable pub mostSamples : ℕ
 mostSamples = 500
 
 -- "Type 4 has ceil(width/2) pairs"
@@ -25,6 +25,10 @@ mostPulse = mostRaw + 3
 unfoldable pub mostChannel : ℕ
 mostChannel = 3 * mostRaw
 
+-- "The host lends the store, 16 rows"
+abbrev pub channels : ℕ
+channels = 16
+
 -- "at most 2 + 12,051 x events closed": an event is its header, two time words and sixteen channels
 unfoldable pub mostEvent : ℕ
-mostEvent = 3 + 16 * mostChannel
+mostEvent = 3 + channels * mostChannel

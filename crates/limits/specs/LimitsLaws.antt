@@ -2,20 +2,25 @@
 use Prim.Native.Nat.{ℕ, _+_, _*_, _/_, _≤_}
 use mathlib.Core.Path.{_≡_, refl}
 use native.Mathlib.Omega.{arith}
-use Rattle.limits.specs.Limits.{mostSamples, pairsOf, mostPairs, mostRaw, mostPulse, mostChannel, mostEvent}
+use Rattle.limits.specs.Limits.{mostSamples, pairsOf, mostPairs, mostRaw, mostPulse, mostChannel, channels, mostEvent}
 
 -- ---- the numbers, as the code has them
 
 pub most-samples : mostSamples ≡ 500
+unfolding mostSamples
 most-samples = refl
 
 pub most-pairs : mostPairs ≡ 250
-unfolding pairsOf mostPairs
+unfolding mostSamples pairsOf mostPairs
 most-pairs = refl
 
 pub most-raw : mostRaw ≡ 251
 unfolding mostRaw
 most-raw = rw most-pairs
+
+pub most-pulse : mostPulse ≡ 254
+unfolding mostPulse
+most-pulse = rw most-raw
 
 pub most-channel : mostChannel ≡ 753
 unfolding mostChannel
@@ -39,7 +44,7 @@ pub channel-is : mostChannel ≡ 3 * mostRaw
 unfolding mostChannel
 channel-is = refl
 
-pub event-is : mostEvent ≡ 3 + 16 * mostChannel
+pub event-is : mostEvent ≡ 3 + channels * mostChannel
 unfolding mostEvent
 event-is = refl
 

@@ -11,5 +11,7 @@ pub const MOST_RAW: usize = 1 + MOST_PAIRS;
 // A channel: three data sets.
 pub const MOST_CHANNEL: usize = 3 * MOST_RAW;
 
-// An event: its header, two time words, sixteen channels.
-pub const MOST_EVENT: usize = 3 + 16 * MOST_CHANNEL;
+pub const CHANNELS: usize = 16;
+
+// An event: its header, two time words, its channels.
+pub const MOST_EVENT: usize = 3 + CHANNELS * MOST_CHANNEL;

@@ -6,6 +6,7 @@ use mathlib.Core.List.{List, [], _∷_}
 use lib.Dec.{eqb, leb}
 use Rattle.fields.specs.Word.{Field, bits, read}
 use Rattle.fields.specs.Tag.{defining, continuation}
+use Rattle.limits.specs.Limits.{mostSamples}
 use Rattle.raw.specs.declared.window.WindowRaw.{WindowRaw}
 use Rattle.raw.specs.declared.pulse_raw.PulseRaw.{PulseRaw}
 use Rattle.raw.specs.declared.pair.SamplePair.{SamplePair}
@@ -23,7 +24,7 @@ windowFixed word = eqb (read 22 12 word) 0
 
 -- width 1-500
 unfoldable pub windowWithin : WindowRaw → Bool
-windowWithin r = leb 1 (r .width) && leb (r .width) 500
+windowWithin r = leb 1 (r .width) && leb (r .width) mostSamples
 
 -- "6 pulse raw: 26-23 channel, 22-21 pulse, 20-10 zero, 9-0 TC"
 unfoldable pub pulseRaw : PulseRaw → List Field

@@ -18,9 +18,9 @@ impl WindowRaw {
     pub const WIDTH_MAX: u32 = 4095;
 
     // A window has at most so many samples, fewer than the field can hold.
-    pub const SAMPLES_MAX: u32 = 500;
+    pub const SAMPLES_MAX: u32 = limits::MOST_SAMPLES as u32;
 
-    // 1 to 500 samples: a limit that is no power of two.
+    // A limit that is no power of two.
     pub fn within(self) -> bool
         ensures { λ r. ⌜ r ≡ windowWithin self ⌝ }
     {

@@ -1,7 +1,7 @@
 // What a sample is.
 ghost use mathlib.Core.Path.{_≡_};
 ghost use Prim.Native.Nat.{_≤_};
-ghost use Rattle.samples.specs.Sample.{samplesOk, amp};
+ghost use Rattle.samples.specs.Sample.{samplesOk, amp, mostAmp, isOver};
 
 // The greatest sample, and the greatest amplitude.
 pub const SAMPLE_MAX: u16 = 8191;
@@ -10,9 +10,16 @@ pub const AMPLITUDE_MAX: u32 = 4095;
 
 // A sample's amplitude: nothing else knows how it is made.
 pub fn amplitude(sample: u16) -> u32
-    ensures { λ r. ⌜ (r ≡ amp sample) × (r ≤ 4095) ⌝ }
+    ensures { λ r. ⌜ (r ≡ amp sample) × (r ≤ mostAmp) ⌝ }
 {
     (sample % 4096) as u32
+}
+
+// The sample is over the threshold.
+pub fn over(threshold: u32, sample: u16) -> bool
+    ensures { λ r. ⌜ r ≡ isOver threshold sample ⌝ }
+{
+    threshold < amplitude(sample)
 }
 
 // No sample of the window is over the greatest. No early way out: the tests of many samples are then made at once.

@@ -4,6 +4,8 @@ use Prim.Native.Nat.{_+_}
 use native.Mathlib.Omega.{arith}
 use borrow.Author.Needs.{needs}
 use borrow.Author.Tests.{ltb-false, le-ltb, not-true}
+use Rattle.limits.specs.Limits.{mostChannel}
+use Rattle.limits.specs.LimitsLaws.{most-channel}
 use Rattle.channel.specs.Channel.{commonOf}
 use Rattle.channel.specs.Inner.{channelLength}
 use Rattle.channel.specs.BoundLaws.{channel-most}
@@ -14,7 +16,7 @@ returns : tie.Need-returns
 returns c =
     let s = c .before .before .before in
     let a = s .args in
-    let wide = ltb-false (a .room) (a .at + 753) (sym (c .before .room-short .ensures) ∙ not-true _ (c .if1 .taken)) in
+    let wide = ltb-false (a .room) (a .at + mostChannel) (rw most-channel (sym (c .before .room-short .ensures) ∙ not-true _ (c .if1 .taken))) in
     sym (le-ltb (a .room) (a .at + channelLength (commonOf (a .settings)) (a .threshold) (a .row .now))
     (omega (arith, wide, channel-most (a .settings) (a .threshold) (a .row .now) (s .pre))))
 

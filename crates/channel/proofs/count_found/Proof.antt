@@ -1,4 +1,5 @@
 -- `channel::count_found` meets its contract: the count of what the finder gives.
+use Rattle.limits.specs.LimitsLaws.{most-raw, most-pulse}
 use Rattle.finder.specs.FindLaws.{searched}
 use Rattle.channel.specs.InnerLaws.{is-found, channel-counted}
 use borrow.Author.Needs.{needs}
@@ -30,5 +31,5 @@ count-found-spec =
     (λ c κs. search needs)
     window-length-requires
     pulses-length-requires
-    (λ c. search needs)
+    (λ c. search (needs, most-raw, most-pulse))
     returns)

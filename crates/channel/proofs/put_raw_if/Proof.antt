@@ -1,17 +1,42 @@
--- `channel::put_raw_if` meets its contract: the data set, or nothing.
-use Rattle.ground.specs.WritingLaws.{written-nil}
+-- `channel::put_raw_if` meets its contract: the header and the pairs of the part that is the data set, or nothing.
+use mathlib.Core.Path.{refl}
+use mathlib.Core.List.{_∷_}
 use borrow.Author.Needs.{needs}
+use Rattle.ground.specs.WritingLaws.{written-nil}
+use Rattle.limits.specs.LimitsLaws.{most-samples}
+use Rattle.pairs.specs.Pairs.{pairItems}
+use Rattle.items.specs.declared.Item.the-variants as I
+use Rattle.items.specs.ItemsLaws.{put-written}
+use Rattle.channel.specs.Channel.{setOf, rawItems}
+use Rattle.channel.specs.InnerLaws.{part-set}
 use Rattle.channel.proofs.put_raw_if.Statement.{statement}
 use Rattle.channel.proofs.put_raw_if.Tie as tie
 
-put-raw-requires : tie.Need-put-raw-requires
-put-raw-requires c κs = let p = c .before .before .before .before .pre in (p .0, rw (c .before .if1 .taken) at (p .1))
-
 returns : tie.Need-returns
-returns c = rw (c .before .before .before .before .if1 .taken) (c .before .before .put-raw .ensures)
+unfolding rawItems
+returns c =
+    let s = c .before .before .before .before .before .before .before .before .before .before in
+    let a = s .args in
+    let on = c .before .before .before .before .before .before .before .if1 .taken in
+    let x = I.Raw (record { channel = a .channel; pulse = a .i; tc = a .pulse .tc }) in
+    rw on
+    (put-written (x ∷ pairItems (setOf (a .row .now) (a .pulse))) refl (rw on at (s .pre .1))
+    (rw (part-set (a .row .now) (a .pulse) (s .pre .0 .0 .first .0)) at (c .before .before .put-run .ensures)))
 
 returns-2 : tie.Need-returns-2
 returns-2 c = rw (c .if1 .left) (written-nil _ _)
 
 pub put-raw-if-spec : {M : Type 1} → statement M
-put-raw-if-spec = tie.close (tie.spec put-raw-requires (λ c. search needs) returns returns-2)
+put-raw-if-spec =
+    tie.close
+    (tie.spec
+    (λ c. search (needs, most-samples))
+    (λ c. search needs)
+    (λ c. search needs)
+    (λ c. search needs)
+    (λ c. search needs)
+    (λ c. search needs)
+    (λ c κs. tt)
+    (λ c. search needs)
+    returns
+    returns-2)

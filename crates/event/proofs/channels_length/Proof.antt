@@ -1,24 +1,25 @@
 -- `event::channels_length` meets its contract: what is counted and what is left are the whole.
-use Prim.Native.Nat.{_+_, _*_, _-_, _≤_}
+use Prim.Native.Nat.{_+_, _-_, _≤_}
 use mathlib.Core.Path.{_≡_}
 use native.Mathlib.Omega.{arith}
 use native.Mathlib.Nat.{zero-add}
 use borrow.Author.Needs.{needs}
 use lib.ListN.{length, drop}
+use Rattle.limits.specs.LimitsLaws.{most-channel}
 use Rattle.event.specs.Event.{channelsItems}
-use Rattle.event.specs.EventLaws.{row-inside, row-short, part-row, count-turn, count-end}
+use Rattle.event.specs.EventLaws.{row-inside, row-short, part-row, count-turn, count-end, channels-most}
 use Rattle.event.proofs.channels_length.Statement.{statement}
 use Rattle.event.proofs.channels_length.Tie as tie
 
 abbrev Inv-loop : tie.InvT-loop
 Inv-loop settings posted store thresholds nw n₀ channel₀ n channel =
-    (channel ≤ length posted) × (n + length (channelsItems settings store channel (drop channel posted)) ≡ length (channelsItems settings store 0 posted)) × (n ≤ 753 * channel)
+    (channel ≤ length posted) × (n + length (channelsItems settings store channel (drop channel posted)) ≡ length (channelsItems settings store 0 posted))
 
 abbrev μ-loop : tie.MeasureT-loop
 μ-loop settings posted store thresholds nw n₀ channel₀ n channel = length posted - channel
 
 loop-holds : tie.Need-loop-holds Inv-loop μ-loop
-loop-holds c = (omega arith, zero-add _, omega arith)
+loop-holds c = (omega arith, zero-add _)
 
 mul-start : tie.Need-mul-start Inv-loop μ-loop
 mul-start c = let s = c .before .before .before .before .before in omega (arith, row-inside _ _ _ (s .pre) (c .before .loop .channel) (c .loop-test .taken), s .good)
@@ -39,7 +40,17 @@ posted-length-requires : tie.Need-posted-length-requires Inv-loop μ-loop
 posted-length-requires c κs = let s = c .before .before .before .before .before .before .before in (s .pre .settings, row-short _ _ _ (s .pre) (c .before .before .before .loop .channel))
 
 add-n : tie.Need-add-n Inv-loop μ-loop
-add-n c = omega (arith, c .before .before .before .before .before .before .before .before .pre .marks, c .posted-length .ensures .1)
+add-n c =
+    let l = c .before .before .before .before in
+    let s = l .before .before .before .before in
+    let i = l .loop .channel in
+    omega (
+      arith,
+      most-channel,
+      channels-most (s .args .settings) (s .args .posted .now) (s .args .store .now) (s .pre .settings) (s .pre .marks),
+      count-turn (s .args .settings) (s .args .store .now) (s .args .posted .now) (s .pre .settings) (l .loop .n) i (l .loop .inv .1) _
+          (rw (part-row (s .args .settings .nw) i (s .args .store .now)) at (c .posted-length .ensures)) (c .before .before .before .loop-test .taken),
+    )
 
 loop-again : tie.Need-loop-again Inv-loop μ-loop
 loop-again c =
@@ -48,15 +59,14 @@ loop-again c =
     let i = l .loop .channel in (
       omega arith,
       count-turn (s .args .settings) (s .args .store .now) (s .args .posted .now) (s .pre .settings) (l .loop .n) i (l .loop .inv .1) _
-          (rw (part-row (s .args .settings .nw) i (s .args .store .now)) at (c .posted-length .ensures .0)) (c .before .before .before .loop-test .taken),
-      omega (arith, c .posted-length .ensures .1),
+          (rw (part-row (s .args .settings .nw) i (s .args .store .now)) at (c .posted-length .ensures)) (c .before .before .before .loop-test .taken),
     )
 
 returns : tie.Need-returns Inv-loop μ-loop
 returns c =
     let l = c .before in
     let s = l .before .before .before .before in
-    (count-end (s .args .settings) (s .args .store .now) (s .args .posted .now) (s .pre .settings) (l .loop .n) (l .loop .channel) (l .loop .inv .1) (c .loop-test .left), omega (arith, s .pre .marks))
+    count-end (s .args .settings) (s .args .store .now) (s .args .posted .now) (s .pre .settings) (l .loop .n) (l .loop .channel) (l .loop .inv .1) (c .loop-test .left)
 
 pub channels-length-spec : {M : Type 1} → statement M
 channels-length-spec =

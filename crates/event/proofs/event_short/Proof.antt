@@ -4,6 +4,8 @@ use Prim.Native.Nat.{_+_}
 use native.Mathlib.Omega.{arith}
 use borrow.Author.Needs.{needs}
 use borrow.Author.Tests.{ltb-false, le-ltb, not-true}
+use Rattle.limits.specs.Limits.{mostEvent}
+use Rattle.limits.specs.LimitsLaws.{most-event}
 use Rattle.event.specs.Inner.{eventLength}
 use Rattle.event.specs.EventLaws.{event-most}
 use Rattle.event.proofs.event_short.Statement.{statement}
@@ -13,7 +15,7 @@ returns : tie.Need-returns
 returns c =
     let s = c .before .before .before .before in
     let a = s .args in
-    let wide = ltb-false (a .room) (a .at + 12051) (sym (c .before .room-short .ensures) ∙ not-true _ (c .if1 .taken)) in
+    let wide = ltb-false (a .room) (a .at + mostEvent) (rw most-event (sym (c .before .room-short .ensures) ∙ not-true _ (c .if1 .taken))) in
     sym (le-ltb (a .room) (a .at + eventLength (a .settings) (a .posted .now) (a .store .now))
     (omega (arith, wide, event-most (a .settings) (a .posted .now) (a .store .now) (s .pre .settings) (s .pre .marks))))
 

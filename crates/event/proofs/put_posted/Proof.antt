@@ -3,7 +3,7 @@ use lib.ListN.{length}
 use borrow.Author.Needs.{needs}
 use Rattle.ground.specs.WritingLaws.{written-nil}
 use Rattle.settings.specs.RangesLaws.{settings-in-range}
-use Rattle.finder.specs.CallLaws.{range-searches}
+use Rattle.finder.specs.FindLaws.{range-searches}
 use Rattle.items.specs.ItemsLaws.{put-written}
 use Rattle.channel.specs.Channel.{commonOf, channelItems}
 use Rattle.event.proofs.put_posted.Statement.{statement}

@@ -5,13 +5,13 @@ use mathlib.Core.Bool.{_&&_}
 use borrow.Author.Needs.{needs}
 use lib.ListN.{length, drop}
 use Rattle.ground.specs.Tests.{allLe}
-use Rattle.samples.specs.Sample.{samplesOk}
+use Rattle.samples.specs.Sample.{mostSample, samplesOk}
 use Rattle.ground.specs.TestsLaws.{tested-turn, tested-end}
 use Rattle.samples.proofs.samples_ok.Statement.{statement}
 use Rattle.samples.proofs.samples_ok.Tie as tie
 
 abbrev Inv-loop : tie.InvT-loop
-Inv-loop window good₀ i₀ good i = good && allLe 8191 (drop i window) ≡ allLe 8191 window
+Inv-loop window good₀ i₀ good i = good && allLe mostSample (drop i window) ≡ allLe mostSample window
 
 abbrev μ-loop : tie.MeasureT-loop
 μ-loop window good₀ i₀ good i = length window - i

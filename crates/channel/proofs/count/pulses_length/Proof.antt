@@ -1,22 +1,24 @@
 -- `channel::count::pulses_length` meets its contract: what is counted and what is left are the whole.
-use Prim.Native.Nat.{_+_, _*_, _-_, _≤_}
+use Prim.Native.Nat.{_+_, _-_, _≤_}
 use mathlib.Core.Path.{_≡_}
 use native.Mathlib.Omega.{arith}
 use native.Mathlib.Nat.{zero-add}
 use lib.ListN.{drop}
+use Rattle.limits.specs.LimitsLaws.{most-pulse}
 use Rattle.channel.specs.Inner.{listed, pulsesLength}
 use Rattle.channel.specs.InnerLaws.{place-set, count-turn, count-end}
+use Rattle.channel.specs.BoundLaws.{found-most}
 use Rattle.channel.proofs.count.pulses_length.Statement.{statement}
 use Rattle.channel.proofs.count.pulses_length.Tie as tie
 
 abbrev Inv-loop : tie.InvT-loop
-Inv-loop parts samples found n₀ i₀ n i = (i ≤ found .count) × (n + pulsesLength parts (drop i (listed found)) ≡ pulsesLength parts (listed found)) × (n ≤ 254 * i)
+Inv-loop parts samples found n₀ i₀ n i = (i ≤ found .count) × (n + pulsesLength parts (drop i (listed found)) ≡ pulsesLength parts (listed found))
 
 abbrev μ-loop : tie.MeasureT-loop
 μ-loop parts samples found n₀ i₀ n i = found .count - i
 
 loop-holds : tie.Need-loop-holds Inv-loop μ-loop
-loop-holds c = (omega arith, zero-add _, omega arith)
+loop-holds c = (omega arith, zero-add _)
 
 mul-pulse : tie.Need-mul-pulse Inv-loop μ-loop
 mul-pulse c = omega arith
@@ -30,7 +32,15 @@ pulse-length-requires c κs =
     place-set _ _ _ _ (pre .0) (pre .1) (omega arith)
 
 add-n : tie.Need-add-n Inv-loop μ-loop
-add-n c = omega arith
+add-n c =
+    let h = c .before .before .before in
+    let pre = h .before .pre in
+    omega (
+      arith,
+      most-pulse,
+      found-most (h .before .args .parts) _ _ (pre .1) (pre .0),
+      count-turn _ _ (pre .0 .stored) (h .loop .i) (h .loop .n) _ _ _ (c .pulse-length .ensures .0) (c .before .before .loop-test .taken) (h .loop .inv .1),
+    )
 
 add-i : tie.Need-add-i Inv-loop μ-loop
 add-i c = omega arith
@@ -41,12 +51,14 @@ loop-less c = omega arith
 loop-again : tie.Need-loop-again Inv-loop μ-loop
 loop-again c =
     let h = c .before .before .before in
-    (omega arith, count-turn _ _ (h .before .pre .0 .stored) (h .loop .i) (h .loop .n) _ _ _ (c .pulse-length .ensures .0) (c .before .before .loop-test .taken) (h .loop .inv .1), omega arith)
+    (omega arith, count-turn _ _ (h .before .pre .0 .stored) (h .loop .i) (h .loop .n) _ _ _ (c .pulse-length .ensures .0) (c .before .before .loop-test .taken) (h .loop .inv .1))
 
 returns : tie.Need-returns Inv-loop μ-loop
 returns c =
     let h = c .before in
-    (count-end _ _ (h .before .pre .0 .stored) (h .loop .i) _ _ (c .loop-test .left) (h .loop .inv .1), omega arith)
+    let pre = h .before .pre in
+    let e = count-end _ _ (pre .0 .stored) (h .loop .i) _ _ (c .loop-test .left) (h .loop .inv .1) in
+    (e, omega (arith, e, found-most (h .before .args .parts) _ _ (pre .1) (pre .0)))
 
 pub pulses-length-spec : {M : Type 1} → statement M
 pulses-length-spec =

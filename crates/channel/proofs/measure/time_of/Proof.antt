@@ -1,5 +1,6 @@
 -- `channel::measure::time_of` meets its contract, field by field.
 use Rattle.channel.specs.Channel.{timeItem}
+use Rattle.limits.specs.LimitsLaws.{most-samples}
 use borrow.Author.Needs.{needs}
 use Rattle.channel.proofs.measure.time_of.Statement.{statement}
 use Rattle.channel.proofs.measure.time_of.Tie as tie
@@ -10,4 +11,4 @@ returns c = cc
 
 pub time-of-spec : {M : Type 1} → statement M
 time-of-spec =
-    tie.close (tie.spec (λ c. search needs) (λ c. search needs) (λ c κs. search needs) (λ c κs. search needs) returns)
+    tie.close (tie.spec (λ c. search (needs, most-samples)) (λ c. search (needs, most-samples)) (λ c κs. search needs) (λ c κs. search needs) returns)

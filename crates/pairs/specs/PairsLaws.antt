@@ -1,0 +1,42 @@
+-- Samples taken two by two, and how many pairs they are. Assumes nothing.
+use Prim.Native.Nat.{ℕ, suc, _+_, _/_, _≤_, _<_}
+use mathlib.Core.Path.{_≡_, refl, sym, _∙_}
+use mathlib.Core.List.{List, [], _∷_}
+use native.Mathlib.Omega.{arith}
+use native.Mathlib.Numerals.{add-one}
+use lib.ListN.{length, drop, getD, drop-of-length-le}
+use lib.Seq.{drop-cons}
+use Rattle.limits.specs.Limits.{pairsOf}
+use Rattle.limits.specs.LimitsLaws.{pairs-is}
+use Rattle.items.specs.declared.Item.the-variants as I
+use Rattle.pairs.specs.Pairs.{pairItems}
+
+-- two samples from i on
+pub pairs-two : (l : List ℕ) (i : ℕ) → i + 1 < length l
+    → pairItems (drop i l) ≡ I.Pair (record { nofirst = 0; first = getD l i 0; nosecond = 0; second = getD l (i + 1) 0 }) ∷ pairItems (drop (i + 2) l)
+pairs-two l i h =
+    let h₀ : i < length l = omega arith in
+    let h₁ : suc i < length l = omega arith in
+    let e : i + 2 ≡ suc (suc i) = omega arith in
+    rw (drop-cons l i 0 h₀, add-one i, drop-cons l (suc i) 0 h₁, e)
+
+-- the last one alone
+pub pairs-one : (l : List ℕ) (i : ℕ) → i < length l → length l ≤ i + 1
+    → pairItems (drop i l) ≡ I.Pair (record { nofirst = 0; first = getD l i 0; nosecond = 1; second = 0 }) ∷ []
+pairs-one l i h k =
+    let k′ : length l ≤ suc i = omega arith in
+    rw (drop-cons l i 0 h, drop-of-length-le l k′)
+
+-- none is left
+pub pairs-none : (l : List ℕ) (i : ℕ) → length l ≤ i → pairItems (drop i l) ≡ []
+pairs-none l i h = rw (drop-of-length-le l h)
+
+-- ---- how many
+
+pub length-pairs : (w : List ℕ) → length (pairItems w) ≡ pairsOf (length w)
+length-pairs w = halves w ∙ sym (pairs-is (length w))
+  where
+    halves : (l : List ℕ) → length (pairItems l) ≡ (length l + 1) / 2
+    halves [] = refl
+    halves (x ∷ []) = refl
+    halves (x ∷ y ∷ r) = omega (arith, halves r)
