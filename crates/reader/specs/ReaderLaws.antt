@@ -54,7 +54,7 @@ judge-by s word e = ap (withItem word) e
 -- ---- what an accepted word says
 
 -- a word that may not stand here is refused
-unallowed : (s : Scan) (word : ℕ) → eqb (refusalOf s M.Unallowed word) 0 ≡ false
+pub unallowed : (s : Scan) (word : ℕ) → eqb (refusalOf s M.Unallowed word) 0 ≡ false
 unfolding refusalOf firstOf
 unallowed s word = go (atLimit s)
   where
