@@ -7,7 +7,6 @@ use native.Mathlib.Omega.{arith}
 use borrow.Author.Tests.{eqb-true, eqb-false, eq-eqb}
 use lib.Dec.{eqb}
 use lib.ListN.{length, drop}
-use Rattle.ground.specs.TestsLaws.{and-left, and-right}
 use Rattle.fields.specs.Word.{read}
 use Rattle.fields.specs.WordLaws.{field-lt}
 use Rattle.fields.specs.Tag.{isDefining}
@@ -15,11 +14,15 @@ use Rattle.framing.specs.declared.filler.Filler.{Filler}
 use Rattle.items.specs.declared.Form.the-variants as F
 use Rattle.items.specs.declared.Item.{Item}
 use Rattle.items.specs.declared.Item.the-variants as I
-use Rattle.reader.specs.declared.Phase.the-variants as P
-use Rattle.reader.specs.declared.Scan.{Scan}
-use Rattle.reader.specs.Reader.{formIn, formAt, isEnd, atLimit, filled, after, stepAt, judgeAt, startOf, Whole, Broken, endOf, Reading, just, readFrom}
+use Rattle.scan.specs.declared.Stage.the-variants as P
+use Rattle.scan.specs.declared.Scan.{Scan}
+use Rattle.scan.specs.declared.Meaning.the-variants as M
+use Rattle.scan.specs.Meaning.{allowedIn, otherIn, meaningIn, meaningAt, isEnd}
+use Rattle.scan.specs.MeaningLaws.{meaning-type}
+use Rattle.scan.specs.After.{filledBy, after, startOf}
+use Rattle.questions.specs.Questions.{atLimit}
+use Rattle.reader.specs.Reader.{stepAt, judgeAt, Whole, Broken, endOf, Reading, just, readFrom}
 use Rattle.layout.specs.LayoutLaws.{behind}
-use Rattle.layout.specs.Wrong.{onto}
 use Rattle.layout.specs.WrongLaws.{At, ends, stops, goes, at}
 use Rattle.layout.specs.Grammar.{Tree, block, empty, bodyOf, recordsOf, TreeOk, NoFiller, Ends, third, no-filler, one-word}
 
@@ -29,18 +32,18 @@ behind-append : (s : Scan) (xs ys : List Item) → behind s (xs ++ ys) ≡ behin
 behind-append s [] ys = refl
 behind-append s (x ∷ xs) ys = behind-append (after s x) xs ys
 
-behind-fillers : (n : ℕ) (fs : List Filler) (s : Scan) → s .phase ≡ P.Tail n → behind s (map (λ f. I.Filler f) fs) .phase ≡ P.Tail (n - length fs)
+behind-fillers : (n : ℕ) (fs : List Filler) (s : Scan) → s .stage ≡ P.Tail n → behind s (map (λ f. I.Filler f) fs) .stage ≡ P.Tail (n - length fs)
 unfolding after
 behind-fillers n [] s e = e ∙ ap P.Tail (omega arith)
-behind-fillers n (f ∷ fs) s e = behind-fillers (n - 1) fs (after s (I.Filler f)) (ap filled e) ∙ ap P.Tail (omega arith)
+behind-fillers n (f ∷ fs) s e = behind-fillers (n - 1) fs (after s (I.Filler f)) (ap filledBy e) ∙ ap P.Tail (omega arith)
 
 abbrev leftBehind : Tree → ℕ
 leftBehind (block b) = 3 - length (b .fillers)
 leftBehind (empty r) = 0
 
-behind-tree : (t : Tree) → behind startOf (recordsOf t) .phase ≡ P.Tail (leftBehind t)
+behind-tree : (t : Tree) → behind startOf (recordsOf t) .stage ≡ P.Tail (leftBehind t)
 unfolding after
-behind-tree (block b) = ap (λ (u : Scan). u .phase) (behind-append startOf (bodyOf b) _) ∙ behind-fillers 3 (b .fillers) _ refl
+behind-tree (block b) = ap (λ (u : Scan). u .stage) (behind-append startOf (bodyOf b) _) ∙ behind-fillers 3 (b .fillers) _ refl
 behind-tree (empty r) = refl
 
 -- ---- the word that follows
@@ -54,19 +57,19 @@ bit-one : (n : ℕ) → n < 2 → (n ≡ 0 → ⊥) → n ≡ 1
 bit-one zero h z = absurd (z refl)
 bit-one (suc n) h z = omega arith
 
-tail-end : (s : Scan) (n w : ℕ) (ws : List ℕ) → s .phase ≡ P.Tail n → Over n (w ∷ ws) → formAt s w ≡ F.End
-unfolding formAt isDefining
+tail-end : (s : Scan) (n w : ℕ) (ws : List ℕ) → s .stage ≡ P.Tail n → Over n (w ∷ ws) → meaningAt s w ≡ M.End
+unfolding meaningAt isDefining
 tail-end s n w ws e o = rw e (go (eqb (read 31 31 w) 0) refl o)
   where
-    none : (b : Bool) → formIn F.End (cond b [] (F.Filler ∷ [])) (read 30 27 w) ≡ cond b F.End (cond (eqb (read 30 27 w) 15) F.Filler F.End)
+    none : (b : Bool) → meaningIn M.End (cond b [] (F.Filler ∷ [])) (read 30 27 w) ≡ cond b M.End (cond (eqb (read 30 27 w) 15) (M.Form F.Filler) M.End)
     none true = refl
     none false = refl
 
-    same : (b : Bool) → cond b F.End F.End ≡ F.End
+    same : (b : Bool) → cond b M.End M.End ≡ M.End
     same true = refl
     same false = refl
 
-    go : (b : Bool) → eqb (read 31 31 w) 0 ≡ b → Over n (w ∷ ws) → cond b F.End (formIn F.End (cond (eqb n 0) [] (F.Filler ∷ [])) (read 30 27 w)) ≡ F.End
+    go : (b : Bool) → eqb (read 31 31 w) 0 ≡ b → Over n (w ∷ ws) → cond b M.End (meaningIn M.End (cond (eqb n 0) [] (F.Filler ∷ [])) (read 30 27 w)) ≡ M.End
     go true z o = refl
     go false z (none-left m) = rw m
     go false z (other h) =
@@ -75,29 +78,27 @@ tail-end s n w ws e o = rw e (go (eqb (read 31 31 w) 0) refl o)
         none (eqb n 0) ∙ rw off (same (eqb n 0))
 
 -- then the block ends there
-closed : (s : Scan) (n : ℕ) (rest : List ℕ) → s .phase ≡ P.Tail n → Over n rest → readFrom s rest ≡ just (Whole (s .place))
+closed : (s : Scan) (n : ℕ) (rest : List ℕ) → s .stage ≡ P.Tail n → Over n rest → readFrom s rest ≡ just (Whole (s .place))
 unfolding readFrom endOf atLimit judgeAt stepAt
 closed s n [] e o = rw e
 closed s n (w ∷ ws) e o = rw (tail-end s n w ws e o)
 
 -- and where it ends, none may come or none does
-over : (s : Scan) (n k : ℕ) (rest : List ℕ) → s .phase ≡ P.Tail n → readFrom s rest ≡ just (Whole k) → Over n rest
-unfolding formAt isDefining
+over : (s : Scan) (n k : ℕ) (rest : List ℕ) → s .stage ≡ P.Tail n → readFrom s rest ≡ just (Whole k) → Over n rest
 over s n k [] e q = other tt
 over s n k (w ∷ ws) e q = go (at s w ws)
   where
-    by-form : (a b : Bool) → eqb n 0 ≡ a → isDefining 15 w ≡ b → isEnd (formAt s w) ≡ true → Over n (w ∷ ws)
+    by-form : (a b : Bool) → eqb n 0 ≡ a → isDefining 15 w ≡ b → meaningAt s w ≡ M.End → Over n (w ∷ ws)
     by-form true b z d h = none-left (eqb-true n 0 z)
     by-form false false z d h = other d
     by-form false true z d h =
-        let bit = eqb-true (read 31 31 w) 1 (and-left _ (eqb (read 30 27 w) 15) d) in
-        let type = eqb-true (read 30 27 w) 15 (and-right (eqb (read 31 31 w) 1) _ d) in
-        absurd (true≢false (sym h ∙ rw (e, bit, type, z)))
+        let f : meaningIn (otherIn s) (allowedIn s) 15 ≡ M.Form F.Filler = rw (e, z) in
+        absurd (true≢false (sym (ap isEnd h) ∙ ap isEnd (meaning-type s w 15 d ∙ f)))
 
     go : At s w ws → Over n (w ∷ ws)
     go (ends h p) = by-form (eqb n 0) (isDefining 15 w) refl refl h
     go (stops m f z p) = let y : Broken m (s .place) ≡ Whole k = ap (λ (r : Reading). r .out) (sym p ∙ q) in let x : _≡_ {A = ℕ} 0 1 = cc in absurd (omega arith)
-    go (goes r p) = let y : length ((readFrom s (w ∷ ws)) .items) ≡ 0 = ap (λ (r : Reading). length (r .items)) q in absurd (omega (arith, y, ap (λ (r : Reading). length (r .items)) p))
+    go (goes f r p) = let y : length ((readFrom s (w ∷ ws)) .items) ≡ 0 = ap (λ (r : Reading). length (r .items)) q in absurd (omega (arith, y, ap (λ (r : Reading). length (r .items)) p))
 
 -- ---- of a tree's records
 
@@ -124,17 +125,17 @@ there-ends t rest n k e = over-tree t rest k (over _ (leftBehind t) n rest (behi
 pub whole-behind : (s : Scan) (ws : List ℕ) (n : ℕ) → (readFrom s ws) .out ≡ Whole n → readFrom (behind s ((readFrom s ws) .items)) (drop (length ((readFrom s ws) .items)) ws) ≡ just (Whole n)
 unfolding readFrom
 whole-behind s [] n e = ap just e
-whole-behind s (w ∷ ws) n e = go (at s w ws) (whole-behind (onto s w) ws n)
+whole-behind s (w ∷ ws) n e = go (at s w ws) (λ t. whole-behind t ws n)
   where
     Goal : Reading → Type 0
     Goal r = readFrom (behind s (r .items)) (drop (length (r .items)) (w ∷ ws)) ≡ just (Whole n)
 
     go : At s w ws
-        → ((readFrom (onto s w) ws) .out ≡ Whole n → readFrom (behind (onto s w) ((readFrom (onto s w) ws) .items)) (drop (length ((readFrom (onto s w) ws) .items)) ws) ≡ just (Whole n))
+        → ((t : Scan) → (readFrom t ws) .out ≡ Whole n → readFrom (behind t ((readFrom t ws) .items)) (drop (length ((readFrom t ws) .items)) ws) ≡ just (Whole n))
         → Goal (readFrom s (w ∷ ws))
     go (ends h p) again = subst Goal (sym p) (p ∙ ap just (sym (ap (λ (r : Reading). r .out) p) ∙ e))
     go (stops m f z p) again =
         let y : Broken m (s .place) ≡ Whole n = sym (ap (λ (r : Reading). r .out) p) ∙ e in
         let x : _≡_ {A = ℕ} 0 1 = cc in
         absurd (omega arith)
-    go (goes r p) again = subst Goal (sym p) (again (sym (ap (λ (r : Reading). r .out) p) ∙ e))
+    go (goes f r p) again = subst Goal (sym p) (again _ (sym (ap (λ (r : Reading). r .out) p) ∙ e))

@@ -9,17 +9,19 @@ use native.Mathlib.Omega.{arith}
 use lib.ListN.{length, take, drop, take-append-drop}
 use lib.Seq.{length-take-le, take-length}
 use Rattle.fields.specs.Word.{fieldAt, read}
+use Rattle.fields.specs.Tag.{isDefining}
 use Rattle.framing.specs.Words.{emptyOf, fillerOf}
 use Rattle.items.specs.Items.{wordOf, fits, formOf, cleanOf}
 use Rattle.items.specs.declared.Item.{Item}
 use Rattle.items.specs.declared.Item.the-variants as I
-use Rattle.reader.specs.declared.Scan.{Scan}
-use Rattle.reader.specs.Reader.{startOf, after, then, just, Whole, Reading, readFrom}
+use Rattle.scan.specs.declared.Scan.{Scan}
+use Rattle.scan.specs.After.{startOf, after}
+use Rattle.reader.specs.Reader.{then, just, Whole, Reading, readFrom}
 use Rattle.reader.specs.RunLaws.{items-le}
 use Rattle.layout.specs.FirstWrong.{records-before}
 use Rattle.layout.specs.NothingLost.{AllWords, Spell, nothing-lost}
 use Rattle.layout.specs.Layout.{Follow}
-use Rattle.layout.specs.LayoutLaws.{Says, says, read-step, behind}
+use Rattle.layout.specs.LayoutLaws.{WordSays, says, read-step, behind}
 use Rattle.layout.specs.AcceptedLaws.{accepted-block}
 use Rattle.layout.specs.Grammar.{Tree, block, empty, recordsOf, Spelt, SpeltTree, Ends, no-filler, one-word, Front}
 use Rattle.layout.specs.GrammarLaws.{tree-is-block}
@@ -32,35 +34,37 @@ high-bits : (w : ℕ) → (read 31 31 (w / 2 ^ 22 * 2 ^ 22) ≡ read 31 31 w) ×
 unfolding fieldAt
 high-bits w = (omega arith, (omega arith, omega arith))
 
-says-clean : (x : Item) (w : ℕ) → fits x ≡ true → wordOf x ≡ cleanOf (formOf x) w → Says x w
+high-type : (type w : ℕ) → isDefining type (w / 2 ^ 22 * 2 ^ 22) ≡ isDefining type w
+unfolding isDefining
+high-type type w = let b = high-bits w in rw (b .0, b .1 .0)
+
+says-clean : (x : Item) (w : ℕ) → fits x ≡ true → wordOf x ≡ cleanOf (formOf x) w → WordSays x w
 unfolding emptyOf fillerOf
-says-clean (I.Block r) w h e = subst (λ (v : ℕ). Says (I.Block r) v) e (says (I.Block r) h)
-says-clean (I.Parameters r) w h e = subst (λ (v : ℕ). Says (I.Parameters r) v) e (says (I.Parameters r) h)
-says-clean (I.Trailer r) w h e = subst (λ (v : ℕ). Says (I.Trailer r) v) e (says (I.Trailer r) h)
-says-clean (I.Event r) w h e = subst (λ (v : ℕ). Says (I.Event r) v) e (says (I.Event r) h)
-says-clean (I.Clock r) w h e = subst (λ (v : ℕ). Says (I.Clock r) v) e (says (I.Clock r) h)
-says-clean (I.ClockHigh r) w h e = subst (λ (v : ℕ). Says (I.ClockHigh r) v) e (says (I.ClockHigh r) h)
-says-clean (I.Window r) w h e = subst (λ (v : ℕ). Says (I.Window r) v) e (says (I.Window r) h)
-says-clean (I.Raw r) w h e = subst (λ (v : ℕ). Says (I.Raw r) v) e (says (I.Raw r) h)
-says-clean (I.Pair r) w h e = subst (λ (v : ℕ). Says (I.Pair r) v) e (says (I.Pair r) h)
-says-clean (I.Integral r) w h e = subst (λ (v : ℕ). Says (I.Integral r) v) e (says (I.Integral r) h)
-says-clean (I.Time r) w h e = subst (λ (v : ℕ). Says (I.Time r) v) e (says (I.Time r) h)
-says-clean (I.Pedestal r) w h e = subst (λ (v : ℕ). Says (I.Pedestal r) v) e (says (I.Pedestal r) h)
+says-clean (I.Block r) w h e = subst (λ (v : ℕ). WordSays (I.Block r) v) e (says (I.Block r) h)
+says-clean (I.Parameters r) w h e = subst (λ (v : ℕ). WordSays (I.Parameters r) v) e (says (I.Parameters r) h)
+says-clean (I.Trailer r) w h e = subst (λ (v : ℕ). WordSays (I.Trailer r) v) e (says (I.Trailer r) h)
+says-clean (I.Event r) w h e = subst (λ (v : ℕ). WordSays (I.Event r) v) e (says (I.Event r) h)
+says-clean (I.Clock r) w h e = subst (λ (v : ℕ). WordSays (I.Clock r) v) e (says (I.Clock r) h)
+says-clean (I.ClockHigh r) w h e = subst (λ (v : ℕ). WordSays (I.ClockHigh r) v) e (says (I.ClockHigh r) h)
+says-clean (I.Window r) w h e = subst (λ (v : ℕ). WordSays (I.Window r) v) e (says (I.Window r) h)
+says-clean (I.Raw r) w h e = subst (λ (v : ℕ). WordSays (I.Raw r) v) e (says (I.Raw r) h)
+says-clean (I.Pair r) w h e = subst (λ (v : ℕ). WordSays (I.Pair r) v) e (says (I.Pair r) h)
+says-clean (I.Integral r) w h e = subst (λ (v : ℕ). WordSays (I.Integral r) v) e (says (I.Integral r) h)
+says-clean (I.Time r) w h e = subst (λ (v : ℕ). WordSays (I.Time r) v) e (says (I.Time r) h)
+says-clean (I.Pedestal r) w h e = subst (λ (v : ℕ). WordSays (I.Pedestal r) v) e (says (I.Pedestal r) h)
 says-clean (I.Empty r) w h e =
-    let a : Says (I.Empty r) (w / 2 ^ 22 * 2 ^ 22) = subst (λ (v : ℕ). Says (I.Empty r) v) e (says (I.Empty r) h) in
+    let a : WordSays (I.Empty r) (w / 2 ^ 22 * 2 ^ 22) = subst (λ (v : ℕ). WordSays (I.Empty r) v) e (says (I.Empty r) h) in
     let b = high-bits w in
     record {
-      bit = sym (b .0) ∙ a .bit;
-      type = λ q. sym (b .1 .0) ∙ a .type q;
+      tag = sym (high-type 14 w) ∙ a .tag;
       fixed = refl;
       item = ap (λ (k : ℕ). I.Empty (record { slot = k })) (sym (b .1 .1)) ∙ a .item;
     }
 says-clean (I.Filler r) w h e =
-    let a : Says (I.Filler r) (w / 2 ^ 22 * 2 ^ 22) = subst (λ (v : ℕ). Says (I.Filler r) v) e (says (I.Filler r) h) in
+    let a : WordSays (I.Filler r) (w / 2 ^ 22 * 2 ^ 22) = subst (λ (v : ℕ). WordSays (I.Filler r) v) e (says (I.Filler r) h) in
     let b = high-bits w in
     record {
-      bit = sym (b .0) ∙ a .bit;
-      type = λ q. sym (b .1 .0) ∙ a .type q;
+      tag = sym (high-type 15 w) ∙ a .tag;
       fixed = refl;
       item = ap (λ (k : ℕ). I.Filler (record { slot = k })) (sym (b .1 .1)) ∙ a .item;
     }

@@ -14,15 +14,19 @@ use Rattle.items.specs.declared.Form.{Form}
 use Rattle.items.specs.declared.Form.the-variants as F
 use Rattle.items.specs.declared.Item.{Item}
 use Rattle.items.specs.declared.Item.the-variants as I
-use Rattle.reader.specs.declared.Phase.{Phase}
-use Rattle.reader.specs.declared.Phase.the-variants as P
-use Rattle.reader.specs.declared.Scan.{Scan}
+use Rattle.scan.specs.declared.Stage.{Stage}
+use Rattle.scan.specs.declared.Stage.the-variants as P
+use Rattle.scan.specs.declared.Scan.{Scan}
+use Rattle.scan.specs.declared.Meaning.the-variants as M
+use Rattle.scan.specs.Meaning.{meaningIn, meaningAt, isEnd, unfinishedBy, unfinished}
+use Rattle.scan.specs.After.{onward, pairedBy, filledBy, stageAfter, after, startOf}
+use Rattle.questions.specs.Questions.{atLimit}
 use Rattle.reader.specs.declared.Step.{Step}
 use Rattle.reader.specs.declared.Step.the-variants as S
 use Rattle.reader.specs.declared.Judged.{Judged}
 use Rattle.reader.specs.declared.Judged.the-variants as J
-use Rattle.reader.specs.Reader.{formIn, formAt, unfinished, atLimit, isEnd, onward, paired, filled, phaseAfter, after, stepAt, withItem, judgeAt, startOf, Out, Whole, Broken, endOf, then, onJudged, readFrom}
-use Rattle.reader.specs.ReaderLaws.{Accepted, accepted, refused-here}
+use Rattle.reader.specs.Reader.{stepAt, withItem, judgeAt, Out, Whole, Broken, endOf, then, onJudged, readFrom}
+use Rattle.reader.specs.ReaderLaws.{Accepted, accepted, refused}
 
 -- a run is the same on every input that begins alike, up to the word where it stops; where it stops at the input's end, that ends there too
 same-start : (s : Scan) (x y : List ℕ) → take (suc (length ((readFrom s x) .items))) y ≡ take (suc (length ((readFrom s x) .items))) x → readFrom s y ≡ readFrom s x
@@ -45,7 +49,7 @@ same-start s (w ∷ x) (v ∷ y) e =
 -- ---- places count the words
 
 -- fillers that may come
-abbrev cap : Phase → ℕ
+abbrev cap : Stage → ℕ
 cap P.Start = 3
 cap P.Head = 3
 cap P.Front = 3
@@ -53,14 +57,14 @@ cap P.Opened = 3
 cap (P.Timed d) = 3
 cap P.Items = 3
 cap (P.Window n odd) = 3
-cap (P.Raw n) = 3
+cap (P.Raw n some) = 3
 cap (P.Tail n) = n
 
 -- no trailer was read and the place is within the limit, or it was and at most three words came after
 abbrev Placed : Scan → Type 0
-Placed s = s .place + cap (s .phase) ≤ 4194306
+Placed s = s .place + cap (s .stage) ≤ 4194306
 
-cap-three : (p : Phase) → unfinished p ≡ true → cap p ≡ 3
+cap-three : (p : Stage) → unfinishedBy p ≡ true → cap p ≡ 3
 cap-three P.Start h = refl
 cap-three P.Head h = refl
 cap-three P.Front h = refl
@@ -68,14 +72,14 @@ cap-three P.Opened h = refl
 cap-three (P.Timed d) h = refl
 cap-three P.Items h = refl
 cap-three (P.Window n odd) h = refl
-cap-three (P.Raw n) h = refl
+cap-three (P.Raw n some) h = refl
 cap-three (P.Tail n) h = absurd (true≢false (sym h))
 
 cap-window : (b : Bool) (n : ℕ) (odd : Bool) → cap (cond b P.Items (P.Window n odd)) ≡ 3
 cap-window true n odd = refl
 cap-window false n odd = refl
 
-cap-paired : (p : Phase) (flag : ℕ) → cap (paired p flag) ≡ cap p
+cap-paired : (p : Stage) (flag : ℕ) → cap (pairedBy p flag) ≡ cap p
 cap-paired P.Start flag = refl
 cap-paired P.Head flag = refl
 cap-paired P.Front flag = refl
@@ -83,10 +87,10 @@ cap-paired P.Opened flag = refl
 cap-paired (P.Timed d) flag = refl
 cap-paired P.Items flag = refl
 cap-paired (P.Window n odd) flag = cap-window (leb n 1) (n - 1) odd
-cap-paired (P.Raw n) flag = refl
+cap-paired (P.Raw n some) flag = refl
 cap-paired (P.Tail n) flag = refl
 
-cap-filled : (p : Phase) → unfinished p ≡ true → cap (filled p) ≡ cap p
+cap-filled : (p : Stage) → unfinishedBy p ≡ true → cap (filledBy p) ≡ cap p
 cap-filled P.Start h = refl
 cap-filled P.Head h = refl
 cap-filled P.Front h = refl
@@ -94,10 +98,10 @@ cap-filled P.Opened h = refl
 cap-filled (P.Timed d) h = refl
 cap-filled P.Items h = refl
 cap-filled (P.Window n odd) h = refl
-cap-filled (P.Raw n) h = refl
+cap-filled (P.Raw n some) h = refl
 cap-filled (P.Tail n) h = absurd (true≢false (sym h))
 
-cap-after : (s : Scan) (x : Item) → unfinished (s .phase) ≡ true → cap (phaseAfter s x) ≤ 3
+cap-after : (s : Scan) (x : Item) → unfinished s ≡ true → cap (stageAfter s x) ≤ 3
 cap-after s (I.Block r) h = omega arith
 cap-after s (I.Parameters r) h = omega arith
 cap-after s (I.Trailer r) h = omega arith
@@ -106,32 +110,32 @@ cap-after s (I.Clock r) h = omega arith
 cap-after s (I.ClockHigh r) h = omega arith
 cap-after s (I.Window r) h = omega arith
 cap-after s (I.Raw r) h = omega arith
-cap-after s (I.Pair r) h = omega (arith, cap-paired (s .phase) (r .nosecond), cap-three (s .phase) h)
+cap-after s (I.Pair r) h = omega (arith, cap-paired (s .stage) (r .nosecond), cap-three (s .stage) h)
 cap-after s (I.Integral r) h = omega arith
 cap-after s (I.Time r) h = omega arith
 cap-after s (I.Pedestal r) h = omega arith
 cap-after s (I.Empty r) h = omega arith
-cap-after s (I.Filler r) h = omega (arith, cap-filled (s .phase) h, cap-three (s .phase) h)
+cap-after s (I.Filler r) h = omega (arith, cap-filled (s .stage) h, cap-three (s .stage) h)
 
 -- in the tail only a filler stands, where one may
-tail-in : (n k : ℕ) (f : Form) → formIn F.End (cond (eqb n 0) [] (F.Filler ∷ [])) k ≡ f → isEnd f ≡ false → (f ≡ F.Filler) × (0 < n)
-tail-in zero k f e h = absurd (true≢false (ap isEnd e ∙ h))
-tail-in (suc n) k f e h = go (eqb k 15) (rw (ne-eqb (suc n) 0 (λ z. omega arith)) at e)
+tail-in : (n k : ℕ) (f : Form) → meaningIn M.End (cond (eqb n 0) [] (F.Filler ∷ [])) k ≡ M.Form f → (f ≡ F.Filler) × (0 < n)
+tail-in zero k f e = absurd (true≢false (ap isEnd e))
+tail-in (suc n) k f e = go (eqb k 15) (rw (ne-eqb (suc n) 0 (λ z. omega arith)) at e)
   where
-    go : (b : Bool) → cond b F.Filler F.End ≡ f → (f ≡ F.Filler) × (0 < suc n)
-    go true e = (sym e, omega arith)
-    go false e = absurd (true≢false (ap isEnd e ∙ h))
+    go : (b : Bool) → cond b (M.Form F.Filler) M.End ≡ M.Form f → (f ≡ F.Filler) × (0 < suc n)
+    go true e = let same : f ≡ F.Filler = cc in (same, omega arith)
+    go false e = absurd (true≢false (ap isEnd e))
 
-tail-only : (s : Scan) (n word : ℕ) (f : Form) → s .phase ≡ P.Tail n → formAt s word ≡ f → isEnd f ≡ false → (f ≡ F.Filler) × (0 < n)
-unfolding formAt
-tail-only s n word f p e h = go (eqb (read 31 31 word) 0) (rw p at e)
+tail-only : (s : Scan) (n word : ℕ) (f : Form) → s .stage ≡ P.Tail n → meaningAt s word ≡ M.Form f → (f ≡ F.Filler) × (0 < n)
+unfolding meaningAt
+tail-only s n word f p e = go (eqb (read 31 31 word) 0) (rw p at e)
   where
-    go : (b : Bool) → cond b F.End (formIn F.End (cond (eqb n 0) [] (F.Filler ∷ [])) (read 30 27 word)) ≡ f → (f ≡ F.Filler) × (0 < n)
-    go true e = absurd (true≢false (ap isEnd e ∙ h))
-    go false e = tail-in n (read 30 27 word) f e h
+    go : (b : Bool) → cond b M.End (meaningIn M.End (cond (eqb n 0) [] (F.Filler ∷ [])) (read 30 27 word)) ≡ M.Form f → (f ≡ F.Filler) × (0 < n)
+    go true e = absurd (true≢false (ap isEnd e))
+    go false e = tail-in n (read 30 27 word) f e
 
 -- below the limit, where no trailer was read
-not-limit : (s : Scan) → atLimit s ≡ false → unfinished (s .phase) ≡ true → s .place ≡ 4194303 → ⊥
+not-limit : (s : Scan) → atLimit s ≡ false → unfinished s ≡ true → s .place ≡ 4194303 → ⊥
 unfolding atLimit
 not-limit s h u e = eqb-false (s .place) 4194303 (rw u at h) e
 
@@ -140,27 +144,27 @@ placed-after : (s : Scan) (word : ℕ) (f : Form) (u : Scan) → Placed s → Ac
 unfolding after onward
 placed-after s word f u p a =
     let next : u .place ≡ s .place + 1 = ap (λ (t : Scan). t .place) (a .scan) ∙ omega arith in
-    let phase : u .phase ≡ phaseAfter s (itemFrom f word) = ap (λ (t : Scan). t .phase) (a .scan) in
-    go (s .phase) refl next phase
+    let stage : u .stage ≡ stageAfter s (itemFrom f word) = ap (λ (t : Scan). t .stage) (a .scan) in
+    go (s .stage) refl next stage
   where
-    open-phase : (q : Phase) → s .phase ≡ q → unfinished q ≡ true → u .place ≡ s .place + 1 → u .phase ≡ phaseAfter s (itemFrom f word) → Placed u
-    open-phase q e v next phase =
-        let o : unfinished (s .phase) ≡ true = ap unfinished e ∙ v in
+    open-stage : (q : Stage) → s .stage ≡ q → unfinishedBy q ≡ true → u .place ≡ s .place + 1 → u .stage ≡ stageAfter s (itemFrom f word) → Placed u
+    open-stage q e v next stage =
+        let o : unfinished s ≡ true = ap unfinishedBy e ∙ v in
         let n : s .place ≡ 4194303 → ⊥ = not-limit s (a .off .0) o in
-        omega (arith, next, ap cap phase, cap-after s (itemFrom f word) o, cap-three (s .phase) o, n)
+        omega (arith, next, ap cap stage, cap-after s (itemFrom f word) o, cap-three (s .stage) o, n)
 
-    go : (q : Phase) → s .phase ≡ q → u .place ≡ s .place + 1 → u .phase ≡ phaseAfter s (itemFrom f word) → Placed u
-    go P.Start e next phase = open-phase P.Start e refl next phase
-    go P.Head e next phase = open-phase P.Head e refl next phase
-    go P.Front e next phase = open-phase P.Front e refl next phase
-    go P.Opened e next phase = open-phase P.Opened e refl next phase
-    go (P.Timed d) e next phase = open-phase (P.Timed d) e refl next phase
-    go P.Items e next phase = open-phase P.Items e refl next phase
-    go (P.Window n odd) e next phase = open-phase (P.Window n odd) e refl next phase
-    go (P.Raw n) e next phase = open-phase (P.Raw n) e refl next phase
-    go (P.Tail n) e next phase =
-        let t = tail-only s n word f e (a .form) (a .here) in
-        let d : cap (u .phase) ≡ n - 1 = ap cap (phase ∙ ap (λ (g : Form). phaseAfter s (itemFrom g word)) (t .0) ∙ ap filled e) in
+    go : (q : Stage) → s .stage ≡ q → u .place ≡ s .place + 1 → u .stage ≡ stageAfter s (itemFrom f word) → Placed u
+    go P.Start e next stage = open-stage P.Start e refl next stage
+    go P.Head e next stage = open-stage P.Head e refl next stage
+    go P.Front e next stage = open-stage P.Front e refl next stage
+    go P.Opened e next stage = open-stage P.Opened e refl next stage
+    go (P.Timed d) e next stage = open-stage (P.Timed d) e refl next stage
+    go P.Items e next stage = open-stage P.Items e refl next stage
+    go (P.Window n odd) e next stage = open-stage (P.Window n odd) e refl next stage
+    go (P.Raw n some) e next stage = open-stage (P.Raw n some) e refl next stage
+    go (P.Tail n) e next stage =
+        let t = tail-only s n word f e (a .form) in
+        let d : cap (u .stage) ≡ n - 1 = ap cap (stage ∙ ap (λ (g : Form). stageAfter s (itemFrom g word)) (t .0) ∙ ap filledBy e) in
         omega (arith, next, d, ap cap e, t .1)
 
 abbrev pub placeOf : Out → ℕ
@@ -169,7 +173,7 @@ placeOf (Broken n p) = p
 
 place-end : (s : Scan) → placeOf (endOf s) ≡ s .place
 unfolding endOf
-place-end s = go (atLimit s) (unfinished (s .phase))
+place-end s = go (atLimit s) (unfinished s)
   where
     go : (a b : Bool) → placeOf (cond a (Broken 14 (s .place)) (cond b (Broken 11 (s .place)) (Whole (s .place)))) ≡ s .place
     go true b = refl
@@ -184,7 +188,7 @@ place-within s (w ∷ ws) p = go (stepAt s w) refl (λ t. place-within t ws)
   where
     go : (j : Step) → stepAt s w ≡ j → ((t : Scan) → Placed t → placeOf ((readFrom t ws) .out) ≤ 4194306) → placeOf ((onJudged (withItem w j) (s .place) (λ t. readFrom t ws)) .out) ≤ 4194306
     go (S.Went f t) e n = n t (placed-after s w f t p (accepted s w e))
-    go (S.Refused k q) e n = omega (arith, refused-here s w e)
+    go (S.Refused k q) e n = omega (arith, refused s w e .place)
     go S.Ended e n = omega arith
 
 -- the place where a run ends, refused or not, is the number of the records read before it; from any scan, if it is not the largest place
@@ -197,7 +201,7 @@ place-counts s (w ∷ ws) p = go (stepAt s w) refl (λ t. place-counts t ws) p
         → placeOf ((onJudged (withItem w j) (s .place) (λ t. readFrom t ws)) .out) < 2 ^ 32 - 1
         → placeOf ((onJudged (withItem w j) (s .place) (λ t. readFrom t ws)) .out) ≡ s .place + length ((onJudged (withItem w j) (s .place) (λ t. readFrom t ws)) .items)
     go (S.Went f t) e n p = omega (arith, n t p, ap (λ (u : Scan). u .place) (accepted s w e .scan))
-    go (S.Refused k q) e n p = omega (arith, refused-here s w e)
+    go (S.Refused k q) e n p = omega (arith, refused s w e .place)
     go S.Ended e n p = omega arith
 
 -- below the largest place from a block's start on

@@ -5,6 +5,7 @@ use mathlib.Core.Path.{_≡_}
 use mathlib.Core.Bool.{true, false}
 use mathlib.Core.List.{List, [], _∷_, _++_, map}
 use lib.ListN.{length, take, drop}
+use Rattle.limits.specs.Limits.{mostSamples, mostPairs}
 use Rattle.fields.specs.Tag.{isDefining}
 use Rattle.framing.specs.declared.block_header.BlockHeader.{BlockHeader}
 use Rattle.framing.specs.declared.parameters.Parameters.{Parameters}
@@ -145,8 +146,8 @@ RawPairs (p ∷ q ∷ ps) = BothValid p × RawPairs (q ∷ ps)
 
 -- "width 1-500"; "type 6 has 1 to 250" pairs
 abbrev pub PieceOk : Piece → Type 0
-PieceOk (window r ps) = (1 ≤ r .width) × ((r .width ≤ 500) × WindowPairs (r .width) ps)
-PieceOk (raw r ps) = (length ps ≤ 250) × RawPairs ps
+PieceOk (window r ps) = (1 ≤ r .width) × ((r .width ≤ mostSamples) × WindowPairs (r .width) ps)
+PieceOk (raw r ps) = (length ps ≤ mostPairs) × RawPairs ps
 PieceOk (integral r) = Unit {0}
 PieceOk (time r) = Unit {0}
 PieceOk (pedestal r) = Unit {0}

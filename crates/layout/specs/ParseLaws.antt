@@ -1,31 +1,40 @@
--- A block of the layout has its tree: records that stand as the reader's phases ask are those of a well-formed tree of the grammar. Assumes nothing.
+-- A block of the layout has its tree: records that stand as the reader's stages ask are those of a well-formed tree of the grammar. Assumes nothing.
 use Prim.Native.Nat.{ℕ, zero, suc, _+_, _-_, _%_, _≤_, _<_}
 use mathlib.Core.Path.{_≡_, refl, sym, ap, _∙_, subst}
 use mathlib.Core.Bool.{Bool, true, false, not, cond, _&&_, _||_, true≢false}
 use mathlib.Core.List.{List, [], _∷_, _++_, map}
 use native.Mathlib.Omega.{arith}
 use borrow.Author.Tests.{leb-true, leb-false, eqb-true, eqb-false, ne-eqb, not-false}
-use lib.Dec.{eqb, leb, ltb}
+use lib.Dec.{eqb, leb}
 use lib.ListN.{length, length-append}
 use Rattle.ground.specs.TestsLaws.{and-left, and-right, or-none}
+use Rattle.limits.specs.Limits.{mostSamples, pairsOf}
+use Rattle.limits.specs.LimitsLaws.{most-samples}
+use Rattle.fields.specs.Tag.{isDefining, isContinuation}
 use Rattle.framing.specs.declared.block_header.BlockHeader.{BlockHeader}
 use Rattle.framing.specs.declared.trailer.BlockTrailer.{BlockTrailer}
 use Rattle.framing.specs.declared.event_header.EventHeader.{EventHeader}
 use Rattle.framing.specs.declared.trigger_time.TriggerTime.{TriggerTime}
 use Rattle.framing.specs.declared.filler.Filler.{Filler}
 use Rattle.framing.specs.Words as W
+use Rattle.raw.specs.declared.window.WindowRaw.{WindowRaw}
 use Rattle.raw.specs.declared.pair.SamplePair.{SamplePair}
 use Rattle.raw.specs.Words as R
-use Rattle.items.specs.Items.{fits}
+use Rattle.items.specs.Items.{wordOf, fits, formOf, isOf}
 use Rattle.items.specs.declared.Form.{Form}
 use Rattle.items.specs.declared.Form.the-variants as F
 use Rattle.items.specs.declared.Item.{Item}
 use Rattle.items.specs.declared.Item.the-variants as I
-use Rattle.reader.specs.declared.Phase.{Phase}
-use Rattle.reader.specs.declared.Phase.the-variants as P
-use Rattle.reader.specs.declared.Scan.{Scan}
-use Rattle.reader.specs.Reader.{mostPairs, pairsOf, moreIn, edges, inner, allowedIn, otherIn, formIn, unfinished, isNo, isEnd, flagWrong, timeWrong, onward, paired, filled, after, startOf}
+use Rattle.scan.specs.declared.Stage.{Stage}
+use Rattle.scan.specs.declared.Stage.the-variants as P
+use Rattle.scan.specs.declared.Scan.{Scan}
+use Rattle.scan.specs.declared.Meaning.the-variants as M
+use Rattle.scan.specs.Meaning.{moreBy, moreIn, opening, edges, inner, allowedBy, allowedIn, otherBy, otherIn, meaningIn, unfinishedBy, isUnallowed, isEnd}
+use Rattle.scan.specs.MeaningLaws.{meaning-more, meaning-type}
+use Rattle.scan.specs.After.{onward, pairedBy, filledBy, after, startOf}
+use Rattle.questions.specs.Questions.{flagBy, flagWrong, timeBy}
 use Rattle.layout.specs.Layout.{Stands, Follow, IsBlock}
+use Rattle.layout.specs.LayoutLaws.{says}
 use Rattle.layout.specs.Grammar.{Piece, window, raw, integral, time, pedestal, no-clock, clock27, clock48, EventTree, Setup, no-setup, setup, Tree, block, empty, eachPair, pieceOf, piecesOf, clockOf, eventsOf, setupOf, recordsOf, Each, BothValid, OddEnd, WindowPairs, LastPair, full, short, RawPairs, PieceOk, ClockOk, EventOk, TreeOk, WellFormed, Widths}
 
 -- ---- the rest of the records, by where the reading stands
@@ -65,7 +74,7 @@ record Then {A : Type 0} (of : A → List Item) (ok : A → Type 0) (ys : List I
   each : Each PieceOk pieces
   are : of first ++ piecesOf pieces ≡ ys
 
--- the kinds: nothing, what is left of a block's head, of an event with its time, of a window's n pairs, of at most n pairs of type 6
+-- the kinds: nothing, what is left of a block's head, of an event with its time, of a window's n pairs, of at most n pairs of type 6, at least one where none was read
 abbrev Nothing : List Item → Type 0
 Nothing ys = [] ≡ ys
 
@@ -84,8 +93,8 @@ Timed d ys = (r : TriggerTime) → r .middle ≡ d → Clocked (I.Clock r ∷ ys
 abbrev Windowed : ℕ → Bool → List Item → Type 0
 Windowed n b ys = (w : ℕ) → 1 ≤ w → pairsOf w ≡ n → eqb (w % 2) 1 ≡ b → Then eachPair (WindowPairs w) ys
 
-abbrev RawLeft : ℕ → List SamplePair → Type 0
-RawLeft n ps = (length ps ≤ n) × (ltb n mostPairs ≡ false → 1 ≤ length ps) × (1 ≤ length ps → RawPairs ps)
+abbrev RawLeft : ℕ → Bool → List SamplePair → Type 0
+RawLeft n some ps = (length ps ≤ n) × (some ≡ false → 1 ≤ length ps) × (1 ≤ length ps → RawPairs ps)
 
 abbrev Made : List Item → Type 0
 Made xs = (t : Tree) × TreeOk t × (recordsOf t ≡ xs)
@@ -93,8 +102,8 @@ Made xs = (t : Tree) × TreeOk t × (recordsOf t ≡ xs)
 abbrev Led : Scan → (List Item → Type 0) → List Item → Type 0
 Led s L xs = Rest L (s .slot) (s .left) (s .place) xs
 
--- what the records look like from a phase on
-abbrev Shape : Phase → Scan → List Item → Type 0
+-- what the records look like from a stage on
+abbrev Shape : Stage → Scan → List Item → Type 0
 Shape P.Start s xs = s .place ≡ 0 → Made xs
 Shape P.Head s xs = Led s Begun xs
 Shape P.Front s xs = Led s Nothing xs
@@ -102,11 +111,11 @@ Shape P.Opened s xs = Led s Clocked xs
 Shape (P.Timed d) s xs = Led s (Timed d) xs
 Shape P.Items s xs = Led s Pieces xs
 Shape (P.Window n b) s xs = Led s (Windowed n b) xs
-Shape (P.Raw n) s xs = Led s (Then eachPair (RawLeft n)) xs
+Shape (P.Raw n some) s xs = Led s (Then eachPair (RawLeft n some)) xs
 Shape (P.Tail n) s xs = Fillers n (s .slot) xs
 
 abbrev Here : Scan → List Item → Type 0
-Here s xs = Shape (s .phase) s xs
+Here s xs = Shape (s .stage) s xs
 
 -- ---- one more record before the rest
 
@@ -141,65 +150,77 @@ piece x place r g w f =
 alike : (a b : ℕ) → not (eqb a b) ≡ false → a ≡ b
 alike a b h = eqb-true a b (not-false (eqb a b) h)
 
-not-no : {A : Type 0} {f : Form} → isNo f ≡ false → F.No ≡ f → A
-not-no r e = absurd (true≢false (ap isNo e ∙ r))
+not-no : {A : Type 0} {f : Form} → M.Unallowed ≡ M.Form f → A
+not-no e = absurd (true≢false (ap isUnallowed e))
 
-not-end : {A : Type 0} {f : Form} → isEnd f ≡ false → F.End ≡ f → A
-not-end r e = absurd (true≢false (ap isEnd e ∙ r))
+not-end : {A : Type 0} {f : Form} → M.End ≡ M.Form f → A
+not-end e = absurd (true≢false (ap isEnd e))
 
--- a record with a type, by the lists of types that are allowed in some phase
-at : (s : Scan) (xs : List Item) (type : ℕ) {f : Form} → isNo f ≡ false → isEnd f ≡ false → formIn (otherIn (s .phase)) (allowedIn (s .phase)) type ≡ f
-    → (formIn F.No (F.Block ∷ F.Empty ∷ []) type ≡ f → s .place ≡ 0 → Made xs) → (formIn F.No edges type ≡ f → Led s Nothing xs) → (formIn F.No (F.Clock ∷ inner) type ≡ f → Led s Clocked xs)
-    → (formIn F.No inner type ≡ f → Led s Pieces xs) → ((n : ℕ) → s .phase ≡ P.Tail n → eqb n 0 ≡ false → formIn F.End (F.Filler ∷ []) type ≡ f → Fillers n (s .slot) xs) → Here s xs
-at s xs type {f} u v e start edge opened inside tail = go (s .phase) refl e
+-- what the record's own word says: of a defining word by its type, of a continuation
+type-of : (s : Scan) (x : Item) (type : ℕ) → Stands s x → (isOf (formOf x) (wordOf x) ≡ true → isDefining type (wordOf x) ≡ true)
+    → meaningIn (otherIn s) (allowedIn s) type ≡ M.Form (formOf x)
+type-of s x type h d = sym (meaning-type s (wordOf x) type (d (says x (h .widths) .tag))) ∙ h .form
+
+more-of : (s : Scan) (x : Item) → Stands s x → (isOf (formOf x) (wordOf x) ≡ true → isContinuation (wordOf x) ≡ true) → moreIn s ≡ M.Form (formOf x)
+more-of s x h d = sym (meaning-more s (wordOf x) (d (says x (h .widths) .tag))) ∙ h .form
+
+-- a record with a type, by the lists of types that are allowed in some stage
+at : (s : Scan) (xs : List Item) (type : ℕ) {f : Form} → meaningIn (otherIn s) (allowedIn s) type ≡ M.Form f → (meaningIn M.Unallowed opening type ≡ M.Form f → s .place ≡ 0 → Made xs)
+    → (meaningIn M.Unallowed edges type ≡ M.Form f → Led s Nothing xs) → (meaningIn M.Unallowed (F.Clock ∷ inner) type ≡ M.Form f → Led s Clocked xs)
+    → (meaningIn M.Unallowed inner type ≡ M.Form f → Led s Pieces xs) → ((n : ℕ) → s .stage ≡ P.Tail n → eqb n 0 ≡ false → meaningIn M.End (F.Filler ∷ []) type ≡ M.Form f → Fillers n (s .slot) xs)
+    → Here s xs
+at s xs type {f} e start edge opened inside tail = go (s .stage) refl e
   where
-    go : (p : Phase) → s .phase ≡ p → formIn (otherIn p) (allowedIn p) type ≡ f → Shape p s xs
+    go : (p : Stage) → s .stage ≡ p → meaningIn (otherBy p) (allowedBy p) type ≡ M.Form f → Shape p s xs
     go P.Start m e = start e
     go P.Head m e = turn (edge e) (λ ys q. (no-setup, q))
     go P.Front m e = edge e
     go P.Opened m e = opened e
     go (P.Timed d) m e = turn (inside e) (λ ys t r q. join (I.Clock r ∷ []) t (clock27 r) tt refl)
     go P.Items m e = inside e
-    go (P.Window n b) m e = not-no u e
-    go (P.Raw n) m e = some (ltb n mostPairs) refl e
+    go (P.Window n b) m e = not-no e
+    go (P.Raw n some) m e = by some e
       where
-        some : (b : Bool) → ltb n mostPairs ≡ b → formIn F.No (cond b inner []) type ≡ f → Led s (Then eachPair (RawLeft n)) xs
-        some true l e = turn (inside e) (λ ys t. join [] t [] (omega arith, λ z. absurd (true≢false (sym l ∙ z)), λ z. absurd (omega arith)) refl)
-        some false l e = not-no u e
-    go (P.Tail n) m e = some (eqb n 0) refl e
+        by : (b : Bool) → meaningIn M.Unallowed (cond b inner []) type ≡ M.Form f → Led s (Then eachPair (RawLeft n b)) xs
+        by true e = turn (inside e) (λ ys t. join [] t [] (omega arith, λ z. absurd (true≢false z), λ z. absurd (omega arith)) refl)
+        by false e = not-no e
+    go (P.Tail n) m e = by (eqb n 0) refl e
       where
-        some : (b : Bool) → eqb n 0 ≡ b → formIn F.End (cond b [] (F.Filler ∷ [])) type ≡ f → Fillers n (s .slot) xs
-        some true z e = not-end v e
-        some false z e = tail n m z e
+        by : (b : Bool) → eqb n 0 ≡ b → meaningIn M.End (cond b [] (F.Filler ∷ [])) type ≡ M.Form f → Fillers n (s .slot) xs
+        by true z e = not-end e
+        by false z e = tail n m z e
 
 -- a record of an event, or at its edge
-item : (s : Scan) (xs : List Item) (type : ℕ) {f : Form} → isNo f ≡ false → isEnd f ≡ false → formIn F.No (F.Block ∷ F.Empty ∷ []) type ≡ F.No → formIn F.End (F.Filler ∷ []) type ≡ F.End
-    → formIn (otherIn (s .phase)) (allowedIn (s .phase)) type ≡ f → (formIn F.No edges type ≡ f → Led s Nothing xs) → Led s Pieces xs → Here s xs
-item s xs type u v i j e a b =
-    at s xs type u v e (λ q. not-no u (sym i ∙ q)) a (λ q. turn b (λ ys t. join [] t no-clock tt refl)) (λ q. b) (λ n m z q. not-end v (sym j ∙ q))
+item : (s : Scan) (xs : List Item) (type : ℕ) {f : Form} → meaningIn M.Unallowed opening type ≡ M.Unallowed → meaningIn M.End (F.Filler ∷ []) type ≡ M.End
+    → meaningIn (otherIn s) (allowedIn s) type ≡ M.Form f → (meaningIn M.Unallowed edges type ≡ M.Form f → Led s Nothing xs) → Led s Pieces xs → Here s xs
+item s xs type i j e a b =
+    at s xs type e (λ q. not-no (sym i ∙ q)) a (λ q. turn b (λ ys t. join [] t no-clock tt refl)) (λ q. b) (λ n m z q. not-end (sym j ∙ q))
 
 edge : {k left place : ℕ} {xs : List Item} → Rest Nothing k left place xs → Rest Pieces k left place xs
 edge a = turn a (λ ys n. record { first = tt; fine = tt; pieces = []; each = tt; are = n })
 
--- a record with none, by what a continuation is in each phase
-next : (S : Phase → Type 0) (p : Phase) {f : Form} → isNo f ≡ false → isEnd f ≡ false → moreIn p ≡ f → (F.Parameters ≡ f → S P.Head) → ((d : ℕ) → F.ClockHigh ≡ f → S (P.Timed d))
-    → ((n : ℕ) (b : Bool) → F.Pair ≡ f → S (P.Window n b)) → ((n : ℕ) → F.Pair ≡ f → eqb n 0 ≡ false → S (P.Raw n)) → S p
-next S p {f} u v e head timed windowed rawed = go p e
+-- a record with none, by what a continuation is in each stage
+next : (S : Stage → Type 0) (p : Stage) {f : Form} → moreBy p ≡ M.Form f → (F.Parameters ≡ f → S P.Head) → ((d : ℕ) → F.ClockHigh ≡ f → S (P.Timed d))
+    → ((n : ℕ) (b : Bool) → F.Pair ≡ f → S (P.Window n b)) → ((n : ℕ) (some : Bool) → F.Pair ≡ f → eqb n 0 ≡ false → S (P.Raw n some)) → S p
+next S p {f} e head timed windowed rawed = go p e
   where
-    go : (p : Phase) → moreIn p ≡ f → S p
-    go P.Start e = not-no u e
-    go P.Head e = head e
-    go P.Front e = not-no u e
-    go P.Opened e = not-no u e
-    go (P.Timed d) e = timed d e
-    go P.Items e = not-no u e
-    go (P.Window n b) e = windowed n b e
-    go (P.Raw n) e = some (eqb n 0) refl e
+    same : {g : Form} → M.Form g ≡ M.Form f → g ≡ f
+    same e = cc
+
+    go : (p : Stage) → moreBy p ≡ M.Form f → S p
+    go P.Start e = not-no e
+    go P.Head e = head (same e)
+    go P.Front e = not-no e
+    go P.Opened e = not-no e
+    go (P.Timed d) e = timed d (same e)
+    go P.Items e = not-no e
+    go (P.Window n b) e = windowed n b (same e)
+    go (P.Raw n some) e = by (eqb n 0) refl e
       where
-        some : (b : Bool) → eqb n 0 ≡ b → cond b F.No F.Pair ≡ f → S (P.Raw n)
-        some true z e = not-no u e
-        some false z e = rawed n e z
-    go (P.Tail n) e = not-end v e
+        by : (b : Bool) → eqb n 0 ≡ b → cond b M.Unallowed (M.Form F.Pair) ≡ M.Form f → S (P.Raw n some)
+        by true z e = not-no e
+        by false z e = rawed n some (same e) z
+    go (P.Tail n) e = not-end e
 
 -- ---- pairs
 
@@ -237,10 +258,10 @@ window-more n b p ys l f h t (suc (suc w)) o c d =
     let q : suc (suc w) % 2 ≡ w % 2 = omega arith in
     pair-first p (t w (omega arith) (omega arith) (ap (λ (j : ℕ). eqb j 1) (sym q) ∙ d)) (λ ps k. (ends l .1 (f ∙ rw (ne-eqb n 1 m)), k))
 
-raw-more : (n : ℕ) (p : SamplePair) (ps : List SamplePair) → 1 ≤ n → LastPair p → RawLeft (cond (eqb (p .nosecond) 1) 0 (n - 1)) ps → RawLeft n (p ∷ ps)
-raw-more n p [] o l h = (o, λ z. omega arith, λ z. l)
-raw-more n p (q ∷ ps) o (full w) h = let l : length (q ∷ ps) ≤ n - 1 = rw (w .second) at (h .0) in (omega arith, λ z. omega arith, λ z. (w, h .2 (omega arith)))
-raw-more n p (q ∷ ps) o (short w) h = let l : length (q ∷ ps) ≤ 0 = rw (w .second) at (h .0) in absurd (omega arith)
+raw-more : (n : ℕ) (some : Bool) (p : SamplePair) (ps : List SamplePair) → 1 ≤ n → LastPair p → RawLeft (cond (eqb (p .nosecond) 1) 0 (n - 1)) true ps → RawLeft n some (p ∷ ps)
+raw-more n some p [] o l h = (o, λ z. omega arith, λ z. l)
+raw-more n some p (q ∷ ps) o (full w) h = let l : length (q ∷ ps) ≤ n - 1 = rw (w .second) at (h .0) in (omega arith, λ z. omega arith, λ z. (w, h .2 (omega arith)))
+raw-more n some p (q ∷ ps) o (short w) h = let l : length (q ∷ ps) ≤ 0 = rw (w .second) at (h .0) in absurd (omega arith)
 
 -- ---- one record and the rest
 
@@ -276,6 +297,12 @@ block-first s r xs h q z =
     let k : TreeOk t = record { some = o; stated = e .stated; events = e .each; count = c; slot = e .slot; few = e .fillers .few; fillers = e .fillers .same } in
     (t, k, ap (λ (l : List Item). I.Block r ∷ l) a)
 
+width-of : (r : WindowRaw) → not (R.windowWithin r) ≡ false → (1 ≤ r .width) × (r .width ≤ mostSamples)
+unfolding R.windowWithin
+width-of r h =
+    let f = not-false _ h in
+    (leb-true 1 (r .width) (and-left _ _ f), omega (arith, most-samples, leb-true (r .width) 500 (and-right (leb 1 (r .width)) _ f)))
+
 none-left : (fs : List Filler) (xs : List Item) → length fs ≤ 0 → map (λ f. I.Filler f) fs ≡ xs → [] ≡ xs
 none-left [] xs l e = e
 none-left (f ∷ fs) xs l e = absurd (omega arith)
@@ -284,49 +311,49 @@ differ : {A : Type 0} → _≡_ {A = ℕ} 0 1 → A
 differ e = absurd (omega arith)
 
 one-more : (s : Scan) (x : Item) (xs : List Item) → Stands s x → Here (after s x) xs → Here s (x ∷ xs)
-unfolding after mostPairs R.windowWithin
-one-more s (I.Block r) xs h q = at s _ 0 refl refl (h .type) (λ e. block-first s r xs h q) (not-no refl) (not-no refl) (not-no refl) (λ n m z. not-end refl)
+unfolding after
+one-more s (I.Block r) xs h q = at s _ 0 (type-of s _ 0 h (λ t. t)) (λ e. block-first s r xs h q) not-no not-no not-no (λ n m z. not-end)
 one-more s (I.Parameters r) xs h q =
-    next (λ p. Shape p s (I.Parameters r ∷ xs)) (s .phase) refl refl (h .type) (λ e. keep (I.Parameters r) (s .place) q (λ ys n. (setup r, ap (λ (l : List Item). I.Parameters r ∷ l) n)))
-    (λ d e. differ (cc)) (λ n b e. differ (cc)) (λ n e z. differ (cc))
-one-more s (I.Trailer r) xs h q = item s _ 1 refl refl refl refl (h .type) (λ e. trailer-first s r xs h q) (edge (trailer-first s r xs h q))
-one-more s (I.Event r) xs h q = item s _ 2 refl refl refl refl (h .type) (λ e. event-first s r xs h q) (edge (event-first s r xs h q))
+    next (λ p. Shape p s (I.Parameters r ∷ xs)) (s .stage) (more-of s _ h (λ t. t)) (λ e. keep (I.Parameters r) (s .place) q (λ ys n. (setup r, ap (λ (l : List Item). I.Parameters r ∷ l) n)))
+    (λ d e. differ (cc)) (λ n b e. differ (cc)) (λ n some e z. differ (cc))
+one-more s (I.Trailer r) xs h q = item s _ 1 refl refl (type-of s _ 1 h (λ t. t)) (λ e. trailer-first s r xs h q) (edge (trailer-first s r xs h q))
+one-more s (I.Event r) xs h q = item s _ 2 refl refl (type-of s _ 2 h (λ t. t)) (λ e. event-first s r xs h q) (edge (event-first s r xs h q))
 one-more s (I.Clock r) xs h q =
-    at s _ 3 refl refl (h .type) (not-no refl) (not-no refl) (λ e. keep (I.Clock r) (s .place) q (λ ys t. t r refl)) (not-no refl) (λ n m z. not-end refl)
+    at s _ 3 (type-of s _ 3 h (λ t. t)) not-no not-no (λ e. keep (I.Clock r) (s .place) q (λ ys t. t r refl)) not-no (λ n m z. not-end)
 one-more s (I.ClockHigh r) xs h q =
-    next (λ p. timeWrong p (r .high) ≡ false → Shape p s (I.ClockHigh r ∷ xs)) (s .phase) refl refl (h .type) (λ e. differ (cc))
+    next (λ p. timeBy p (r .high) ≡ false → Shape p s (I.ClockHigh r ∷ xs)) (s .stage) (more-of s _ h (λ t. t)) (λ e. differ (cc))
     (λ d e f. keep (I.ClockHigh r) (s .place) q (λ ys t c m. join (I.Clock c ∷ I.ClockHigh r ∷ []) t (clock48 c r) (alike (r .high % 8) d f ∙ sym m) refl))
-    (λ n b e. differ (cc)) (λ n e z. differ (cc)) (h .fields)
+    (λ n b e. differ (cc)) (λ n some e z. differ (cc)) (h .fields)
 one-more s (I.Window r) xs h q =
-    let f = not-false (R.windowWithin r) (h .fields) in
-    let l = leb-true 1 (r .width) (and-left _ _ f) in
-    item s _ 4 refl refl refl refl (h .type) (not-no refl)
-    (piece (I.Window r) (s .place) (turn q (λ ys t. t (r .width) l refl refl)) (window r) (λ ps. refl) (λ ps o. (l, (leb-true (r .width) 500 (and-right (leb 1 (r .width)) _ f), o))))
-one-more s (I.Raw r) xs h q = item s _ 6 refl refl refl refl (h .type) (not-no refl) (piece (I.Raw r) (s .place) q (raw r) (λ ps. refl) (λ ps o. (o .0, o .2 (o .1 refl))))
+    let f = width-of r (h .fields) in
+    let l = f .0 in
+    item s _ 4 refl refl (type-of s _ 4 h (λ t. t)) not-no
+    (piece (I.Window r) (s .place) (turn q (λ ys t. t (r .width) l refl refl)) (window r) (λ ps. refl) (λ ps o. (l, (f .1, o))))
+one-more s (I.Raw r) xs h q = item s _ 6 refl refl (type-of s _ 6 h (λ t. t)) not-no (piece (I.Raw r) (s .place) q (raw r) (λ ps. refl) (λ ps o. (o .0, o .2 (o .1 refl))))
 one-more s (I.Pair r) xs h q =
-    let o = pair-is r (eqb (r .nofirst) 0) (eqb (r .nosecond) 1) (eqb (r .second) 0) (flagWrong (s .phase) (r .nosecond)) refl refl refl (h .widths) (h .fields) in
-    next (λ p. flagWrong p (r .nosecond) ≡ false → Shape (paired p (r .nosecond)) (after s (I.Pair r)) xs → Shape p s (I.Pair r ∷ xs)) (s .phase) refl refl (h .type)
+    let o = pair-is r (eqb (r .nofirst) 0) (eqb (r .nosecond) 1) (eqb (r .second) 0) (flagWrong s (r .nosecond)) refl refl refl (h .widths) (h .fields) in
+    next (λ p. flagBy p (r .nosecond) ≡ false → Shape (pairedBy p (r .nosecond)) (after s (I.Pair r)) xs → Shape p s (I.Pair r ∷ xs)) (s .stage) (more-of s _ h (λ t. t))
     (λ e. differ (cc)) (λ d e. differ (cc))
     (λ n b e f. in-window n b (o .0) (alike (r .nosecond) (cond (eqb n 1 && b) 1 0) f) (leb n 1) refl)
-    (λ n e z f q. keep (I.Pair r) (s .place) q (λ ys t. pair-first r t (λ ps. raw-more n r ps (omega (arith, eqb-false n 0 z)) (o .0))))
+    (λ n some e z f q. keep (I.Pair r) (s .place) q (λ ys t. pair-first r t (λ ps. raw-more n some r ps (omega (arith, eqb-false n 0 z)) (o .0))))
     (o .1) q
   where
     in-window : (n : ℕ) (b : Bool) → LastPair r → r .nosecond ≡ cond (eqb n 1 && b) 1 0 → (d : Bool) → leb n 1 ≡ d
         → Shape (cond d P.Items (P.Window (n - 1) b)) (after s (I.Pair r)) xs → Led s (Windowed n b) (I.Pair r ∷ xs)
     in-window n b l f true z q = keep (I.Pair r) (s .place) q (λ ys. window-last n b r ys l f (leb-true n 1 z))
     in-window n b l f false z q = keep (I.Pair r) (s .place) q (λ ys. window-more n b r ys l f (leb-false n 1 z))
-one-more s (I.Integral r) xs h q = item s _ 7 refl refl refl refl (h .type) (not-no refl) (piece (I.Integral r) (s .place) q (λ u. integral r) (λ u. refl) (λ u o. tt))
-one-more s (I.Time r) xs h q = item s _ 8 refl refl refl refl (h .type) (not-no refl) (piece (I.Time r) (s .place) q (λ u. time r) (λ u. refl) (λ u o. tt))
-one-more s (I.Pedestal r) xs h q = item s _ 10 refl refl refl refl (h .type) (not-no refl) (piece (I.Pedestal r) (s .place) q (λ u. pedestal r) (λ u. refl) (λ u o. tt))
-one-more s (I.Empty r) xs h q = at s _ 14 refl refl (h .type) (λ e z. (empty r, tt, ap (λ (l : List Item). I.Empty r ∷ l) (none-left (q .fillers) xs (q .few) (q .are)))) (not-no refl) (not-no refl) (not-no refl) (λ n m z. not-end refl)
+one-more s (I.Integral r) xs h q = item s _ 7 refl refl (type-of s _ 7 h (λ t. t)) not-no (piece (I.Integral r) (s .place) q (λ u. integral r) (λ u. refl) (λ u o. tt))
+one-more s (I.Time r) xs h q = item s _ 8 refl refl (type-of s _ 8 h (λ t. t)) not-no (piece (I.Time r) (s .place) q (λ u. time r) (λ u. refl) (λ u o. tt))
+one-more s (I.Pedestal r) xs h q = item s _ 10 refl refl (type-of s _ 10 h (λ t. t)) not-no (piece (I.Pedestal r) (s .place) q (λ u. pedestal r) (λ u. refl) (λ u o. tt))
+one-more s (I.Empty r) xs h q = at s _ 14 (type-of s _ 14 h (λ t. t)) (λ e z. (empty r, tt, ap (λ (l : List Item). I.Empty r ∷ l) (none-left (q .fillers) xs (q .few) (q .are)))) not-no not-no not-no (λ n m z. not-end)
 one-more s (I.Filler r) xs h q =
-    at s _ 15 refl refl (h .type) (not-no refl) (not-no refl) (not-no refl) (not-no refl)
-    (λ n m z e. let t : Fillers (n - 1) (s .slot) xs = subst (λ (p : Phase). Shape (filled p) (after s (I.Filler r)) xs) m q in
+    at s _ 15 (type-of s _ 15 h (λ t. t)) not-no not-no not-no not-no
+    (λ n m z e. let t : Fillers (n - 1) (s .slot) xs = subst (λ (p : Stage). Shape (filledBy p) (after s (I.Filler r)) xs) m q in
     record { fillers = r ∷ t .fillers; few = omega (arith, t .few, eqb-false n 0 z); same = (alike (r .slot) (s .slot) (h .slot), t .same); are = ap (λ (l : List Item). I.Filler r ∷ l) (t .are) })
 
 -- ---- all records
 
-no-more : (p : Phase) (s : Scan) → unfinished p ≡ false → Shape p s []
+no-more : (p : Stage) (s : Scan) → unfinishedBy p ≡ false → Shape p s []
 no-more P.Start s h = absurd (true≢false h)
 no-more P.Head s h = absurd (true≢false h)
 no-more P.Front s h = absurd (true≢false h)
@@ -334,11 +361,11 @@ no-more P.Opened s h = absurd (true≢false h)
 no-more (P.Timed d) s h = absurd (true≢false h)
 no-more P.Items s h = absurd (true≢false h)
 no-more (P.Window n b) s h = absurd (true≢false h)
-no-more (P.Raw n) s h = absurd (true≢false h)
+no-more (P.Raw n some) s h = absurd (true≢false h)
 no-more (P.Tail n) s h = record { fillers = []; few = omega arith; same = tt; are = refl }
 
 shape-of : (s : Scan) (xs : List Item) → Follow s xs → Here s xs
-shape-of s [] h = no-more (s .phase) s h
+shape-of s [] h = no-more (s .stage) s h
 shape-of s (x ∷ xs) h = one-more s x xs (h .0) (shape-of (after s x) xs (h .1))
 
 widths-of : (s : Scan) (xs : List Item) → Follow s xs → Widths xs

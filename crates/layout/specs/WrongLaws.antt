@@ -12,34 +12,45 @@ use Rattle.ground.specs.Tests.{firstOf, FirstIs}
 use Rattle.ground.specs.TestsLaws.{first-is, is-first}
 use Rattle.items.specs.Items.{itemFrom}
 use Rattle.items.specs.declared.Form.{Form}
-use Rattle.reader.specs.declared.Scan.{Scan}
-use Rattle.reader.specs.Reader.{formAt, isEnd, refusals, refusalOf, stepAt, judgeAt, startOf, Whole, Broken, endNumber, outOf, Reading, then, just, readFrom}
+use Rattle.scan.specs.declared.Scan.{Scan}
+use Rattle.scan.specs.declared.Meaning.{Meaning}
+use Rattle.scan.specs.declared.Meaning.the-variants as M
+use Rattle.scan.specs.Meaning.{meaningAt, isEnd}
+use Rattle.scan.specs.After.{startOf, after}
+use Rattle.questions.specs.Questions.{refusals, refusalOf}
+use Rattle.reader.specs.Reader.{stepAt, judgeAt, Whole, Broken, endNumber, outOf, Reading, then, just, readFrom}
+use Rattle.reader.specs.ReaderLaws.{unallowed}
 use Rattle.reader.specs.RunLaws.{end-by}
 use Rattle.layout.specs.FirstWrong.{placeOf, records-before}
-use Rattle.layout.specs.Wrong.{questions, stopOf, Right, onto, Upto, here, on, WrongAt, WrongBy}
+use Rattle.layout.specs.Wrong.{questions, stopBy, stopOf, Right, Upto, here, on, WrongAt, WrongBy}
 
 -- ---- one word
 
+number : (s : Scan) (m : Meaning) (w : ℕ) → refusalOf s m w ≡ firstOf (refusals s m w)
+unfolding refusalOf
+number s m w = refl
+
 -- what a run does at a word: the block ends before it, it is wrong, or it stands and the run goes on behind it
 pub data At (s : Scan) (w : ℕ) (ws : List ℕ) : Type 0 where
-  ends : isEnd (formAt s w) ≡ true → readFrom s (w ∷ ws) ≡ just (Whole (s .place)) → At s w ws
+  ends : meaningAt s w ≡ M.End → readFrom s (w ∷ ws) ≡ just (Whole (s .place)) → At s w ws
   stops : (n : ℕ) → FirstIs (questions s (w ∷ ws)) n → (n ≡ 0 → ⊥) → readFrom s (w ∷ ws) ≡ just (Broken n (s .place)) → At s w ws
-  goes : Right s w → readFrom s (w ∷ ws) ≡ then (itemFrom (formAt s w) w) (readFrom (onto s w) ws) → At s w ws
+  goes : (f : Form) → Right s w f → readFrom s (w ∷ ws) ≡ then (itemFrom f w) (readFrom (after s (itemFrom f w)) ws) → At s w ws
 
 pub at : (s : Scan) (w : ℕ) (ws : List ℕ) → At s w ws
-unfolding readFrom judgeAt stepAt refusalOf
-at s w ws = go (isEnd f) refl (eqb (refusalOf s f w) 0) refl
+unfolding readFrom judgeAt stepAt
+at s w ws = go (meaningAt s w) refl
   where
-    f : Form
-    f = formAt s w
+    is : (m : Meaning) → FirstIs (refusals s m w) (refusalOf s m w)
+    is m = rw (number s m w) (first-is (refusals s m w))
 
-    is : FirstIs (refusals s f w) (refusalOf s f w)
-    is = first-is (refusals s f w)
-
-    go : (a : Bool) → isEnd f ≡ a → (b : Bool) → eqb (refusalOf s f w) 0 ≡ b → At s w ws
-    go true h b z = ends h (rw h)
-    go false h true z = goes (record { inside = h; none = rw h (subst (FirstIs (refusals s f w)) (eqb-true _ 0 z) is) }) (rw (h, z))
-    go false h false z = stops (refusalOf s f w) (rw h is) (eqb-false _ 0 z) (rw (h, z))
+    go : (m : Meaning) → meaningAt s w ≡ m → At s w ws
+    go (M.Form f) h = by (eqb (refusalOf s (M.Form f) w) 0) refl
+      where
+        by : (b : Bool) → eqb (refusalOf s (M.Form f) w) 0 ≡ b → At s w ws
+        by true z = goes f (record { form = h; none = rw h (subst (FirstIs (refusals s (M.Form f) w)) (eqb-true _ 0 z) (is (M.Form f))) }) (rw (h, z))
+        by false z = stops (refusalOf s (M.Form f) w) (rw h (is (M.Form f))) (eqb-false _ 0 z) (rw (h, z))
+    go M.Unallowed h = stops (refusalOf s M.Unallowed w) (rw h (is M.Unallowed)) (eqb-false _ 0 (unallowed s w)) (rw h)
+    go M.End h = ends h (rw h)
 
 -- the first question that refuses stops the run, at a word as at the input's end
 stopped : (s : Scan) (ws : List ℕ) (n : ℕ) → FirstIs (questions s ws) n → (n ≡ 0 → ⊥) → readFrom s ws ≡ just (Broken n (s .place))
@@ -54,16 +65,19 @@ stopped s (w ∷ ws) n f z = go (at s w ws)
         let none : firstOf (questions s (w ∷ ws)) ≡ 0 = rw h in
         absurd (z (sym (is-first f) ∙ none))
     go (stops m g y e) = e ∙ ap (λ (i : ℕ). just (Broken i (s .place))) (sym (is-first g) ∙ is-first f)
-    go (goes r e) = absurd (z (sym (is-first f) ∙ is-first (r .none)))
+    go (goes g r e) = absurd (z (sym (is-first f) ∙ is-first (r .none)))
 
 -- a word that stands is taken
-stands : (s : Scan) (w : ℕ) (ws : List ℕ) → Right s w → readFrom s (w ∷ ws) ≡ then (itemFrom (formAt s w) w) (readFrom (onto s w) ws)
-stands s w ws r = go (at s w ws)
+stands : (s : Scan) (w : ℕ) (ws : List ℕ) (f : Form) → Right s w f → readFrom s (w ∷ ws) ≡ then (itemFrom f w) (readFrom (after s (itemFrom f w)) ws)
+stands s w ws f r = go (at s w ws)
   where
-    go : At s w ws → readFrom s (w ∷ ws) ≡ then (itemFrom (formAt s w) w) (readFrom (onto s w) ws)
-    go (ends h e) = absurd (true≢false (sym h ∙ r .inside))
+    go : At s w ws → readFrom s (w ∷ ws) ≡ then (itemFrom f w) (readFrom (after s (itemFrom f w)) ws)
+    go (ends h e) = absurd (true≢false (sym (ap isEnd h) ∙ ap isEnd (r .form)))
     go (stops m g z e) = absurd (z (sym (is-first g) ∙ is-first (r .none)))
-    go (goes q e) = e
+    go (goes g q e) =
+        let i : M.Form g ≡ M.Form f = sym (q .form) ∙ r .form in
+        let same : g ≡ f = cc in
+        subst (λ (h : Form). readFrom s (w ∷ ws) ≡ then (itemFrom h w) (readFrom (after s (itemFrom h w)) ws)) same e
 
 -- ---- a run
 
@@ -76,9 +90,9 @@ upto-stopped : {s t : Scan} {ws : List ℕ} {k : ℕ} → Upto s ws k t → (n :
 upto-stopped {s} {t} {ws} here n f z =
     let e = stopped s ws n f z in
     record { out = ap (λ (r : Reading). r .out) e; count = ap (λ (r : Reading). length (r .items)) e }
-upto-stopped (on {s} {t} {w} {ws} r u) n f z =
-    let e = stands s w ws r in
-    let i = upto-stopped u n f z in
+upto-stopped (on {s} {t} {w} {f} {ws} r u) n g z =
+    let e = stands s w ws f r in
+    let i = upto-stopped u n g z in
     record { out = ap (λ (r : Reading). r .out) e ∙ i .out; count = ap (λ (r : Reading). length (r .items)) e ∙ ap suc (i .count) }
 
 wrong-stops : (s : Scan) (ws : List ℕ) (n k : ℕ) (a : WrongAt s ws n k) → Stopped s ws n k (a .to .place)
@@ -98,16 +112,16 @@ stops-wrong s [] n p e = go (eqb (endNumber s) 0) refl (sym (end-by s) ∙ e)
     go : (b : Bool) → eqb (endNumber s) 0 ≡ b → cond b (Whole (s .place)) (Broken (endNumber s) (s .place)) ≡ Broken n p → WrongBy s [] n p
     go true h q = let z : _≡_ {A = ℕ} 0 1 = cc in absurd (omega arith)
     go false h q = wrong-here s [] (endNumber s) n p (first-is (questions s [])) (eqb-false (endNumber s) 0 h) q
-stops-wrong s (w ∷ ws) n p e = go (at s w ws) (stops-wrong (onto s w) ws n p)
+stops-wrong s (w ∷ ws) n p e = go (at s w ws) (λ t. stops-wrong t ws n p)
   where
-    go : At s w ws → ((readFrom (onto s w) ws) .out ≡ Broken n p → WrongBy (onto s w) ws n p) → WrongBy s (w ∷ ws) n p
+    go : At s w ws → ((t : Scan) → (readFrom t ws) .out ≡ Broken n p → WrongBy t ws n p) → WrongBy s (w ∷ ws) n p
     go (ends h q) again =
         let y : Whole (s .place) ≡ Broken n p = sym (ap (λ (r : Reading). r .out) q) ∙ e in
         let z : _≡_ {A = ℕ} 0 1 = cc in
         absurd (omega arith)
     go (stops m f z q) again = wrong-here s (w ∷ ws) m n p f z (sym (ap (λ (r : Reading). r .out) q) ∙ e)
-    go (goes r q) again =
-        let a = again (sym (ap (λ (r : Reading). r .out) q) ∙ e) in
+    go (goes f r q) again =
+        let a = again _ (sym (ap (λ (r : Reading). r .out) q) ∙ e) in
         let b = a .wrong in
         record { words = suc (a .words); wrong = record { to = b .to; before = on r (b .before); first = b .first; some = b .some }; place = a .place }
 
@@ -131,14 +145,28 @@ first-wrong ws n p = (
 pub stop-says : (s : Scan) (ws : List ℕ) → let t = stopOf s ws in (readFrom s ws) .out ≡ outOf (firstOf (questions (t .0) (t .1))) (t .0 .place)
 unfolding readFrom endNumber firstOf stopOf
 stop-says s [] = end-by s
-stop-says s (w ∷ ws) = go (at s w ws) (stop-says (onto s w) ws)
+stop-says s (w ∷ ws) = go (at s w ws) (λ t. stop-says t ws)
   where
-    go : At s w ws → (let t = stopOf (onto s w) ws in (readFrom (onto s w) ws) .out ≡ outOf (firstOf (questions (t .0) (t .1))) (t .0 .place))
-        → let t = stopOf s (w ∷ ws) in (readFrom s (w ∷ ws)) .out ≡ outOf (firstOf (questions (t .0) (t .1))) (t .0 .place)
-    go (ends h e) r = ap (λ (x : Reading). x .out) e ∙ rw h (rw h)
+    Ended : Scan × List ℕ → Type 0
+    Ended t = (readFrom s (w ∷ ws)) .out ≡ outOf (firstOf (questions (t .0) (t .1))) (t .0 .place)
+
+    here-by : (m : Meaning) → meaningAt s w ≡ m → eqb (firstOf (questions s (w ∷ ws))) 0 ≡ false → stopBy s w ws m (λ t. stopOf t ws) ≡ (s, w ∷ ws)
+    here-by (M.Form f) h z =
+        let q : eqb (firstOf (refusals s (M.Form f) w)) 0 ≡ false = rw h at z in
+        rw q
+    here-by M.Unallowed h z = refl
+    here-by M.End h z = refl
+
+    go : At s w ws → ((t : Scan) → let u = stopOf t ws in (readFrom t ws) .out ≡ outOf (firstOf (questions (u .0) (u .1))) (u .0 .place)) → Ended (stopBy s w ws (meaningAt s w) (λ t. stopOf t ws))
+    go (ends h e) r =
+        let t : stopBy s w ws (meaningAt s w) (λ t. stopOf t ws) ≡ (s, w ∷ ws) = rw h in
+        let i : firstOf (questions s (w ∷ ws)) ≡ 0 = rw h in
+        subst Ended (sym t) (ap (λ (x : Reading). x .out) e ∙ rw i)
     go (stops n f z e) r =
         let i : firstOf (questions s (w ∷ ws)) ≡ n = is-first f in
-        ap (λ (x : Reading). x .out) e ∙ rw (i, ne-eqb n 0 z) (rw (i, ne-eqb n 0 z))
-    go (goes k e) r =
-        let i : firstOf (questions s (w ∷ ws)) ≡ 0 = is-first (k .none) in
-        ap (λ (x : Reading). x .out) e ∙ rw (i, k .inside) r
+        let t = here-by (meaningAt s w) refl (rw i (ne-eqb n 0 z)) in
+        subst Ended (sym t) (ap (λ (x : Reading). x .out) e ∙ rw (i, ne-eqb n 0 z))
+    go (goes f k e) r =
+        let i : firstOf (refusals s (M.Form f) w) ≡ 0 = is-first (rw (k .form) at (k .none)) in
+        let t : stopBy s w ws (meaningAt s w) (λ t. stopOf t ws) ≡ stopOf (after s (itemFrom f w)) ws = rw (k .form, i) in
+        subst Ended (sym t) (ap (λ (x : Reading). x .out) e ∙ r (after s (itemFrom f w)))
