@@ -27,21 +27,10 @@ fn more(n: u32) -> u32
 fn with_high(time: TriggerTime, scan: Scan, item: Item, after: Scan) -> Next
     ensures { λ r. ⌜ r ≡ withHigh time scan item after ⌝ }
 {
-    match item {
-        Item::Block(_) => Next::Took(Record::Time27(time), scan),
-        Item::Parameters(_) => Next::Took(Record::Time27(time), scan),
-        Item::Trailer(_) => Next::Took(Record::Time27(time), scan),
-        Item::Event(_) => Next::Took(Record::Time27(time), scan),
-        Item::Clock(_) => Next::Took(Record::Time27(time), scan),
-        Item::ClockHigh(high) => Next::Took(Record::Time48(time, high), after),
-        Item::Window(_) => Next::Took(Record::Time27(time), scan),
-        Item::Raw(_) => Next::Took(Record::Time27(time), scan),
-        Item::Pair(_) => Next::Took(Record::Time27(time), scan),
-        Item::Integral(_) => Next::Took(Record::Time27(time), scan),
-        Item::Time(_) => Next::Took(Record::Time27(time), scan),
-        Item::Pedestal(_) => Next::Took(Record::Time27(time), scan),
-        Item::Empty(_) => Next::Took(Record::Time27(time), scan),
-        Item::Filler(_) => Next::Took(Record::Time27(time), scan),
+    if let Item::ClockHigh(high) = item {
+        Next::Took(Record::Time48(time, high), after)
+    } else {
+        Next::Took(Record::Time27(time), scan)
     }
 }
 

@@ -1,79 +1,46 @@
 -- `records::with_high` meets its contract.
+use Prim.Native.Nat.{ℕ}
+use mathlib.Core.Path.{_≡_, refl}
+use mathlib.Core.List.{List, [], _∷_}
+use types.Run.{OneOf, miss}
+use denote.Enum.Declared.{tagOf}
 use borrow.Author.Needs.{needs}
+use Rattle.framing.specs.declared.trigger_time.TriggerTime.{TriggerTime}
+use Rattle.items.specs.declared.Item.{Item}
+use Rattle.items.specs.declared.Item.the-variants as I
+use Rattle.items.proofs.Item.{the-type}
+use Rattle.reader.specs.declared.Scan.{Scan}
+use Rattle.records.specs.declared.answer.Record.the-variants as R
+use Rattle.records.specs.declared.answer.Next.the-variants as N
+use Rattle.records.specs.Next.{withHigh}
 use Rattle.records.proofs.with_high.Statement.{statement}
 use Rattle.records.proofs.with_high.Tie as tie
 
+abbrev others : List ℕ
+others = 0 ∷ 1 ∷ 2 ∷ 3 ∷ 4 ∷ 6 ∷ 7 ∷ 8 ∷ 9 ∷ 10 ∷ 11 ∷ 12 ∷ 13 ∷ []
+
+-- every other item leaves the time as it is
+other : (r : TriggerTime) (t : Scan) (x : Item) (u : Scan) → OneOf others (tagOf the-type x) → N.Took (R.Time27 r) t ≡ withHigh r t x u
+other r t (I.Block x) u h = refl
+other r t (I.Parameters x) u h = refl
+other r t (I.Trailer x) u h = refl
+other r t (I.Event x) u h = refl
+other r t (I.Clock x) u h = refl
+other r t (I.ClockHigh x) u h = absurd (miss others 5 tt h)
+other r t (I.Window x) u h = refl
+other r t (I.Raw x) u h = refl
+other r t (I.Pair x) u h = refl
+other r t (I.Integral x) u h = refl
+other r t (I.Time x) u h = refl
+other r t (I.Pedestal x) u h = refl
+other r t (I.Empty x) u h = refl
+other r t (I.Filler x) u h = refl
+
 returns : tie.Need-returns
-returns c = simp (c .enum-told .given .1)
+returns c = rw (c .before .item .given .1)
 
 returns-2 : tie.Need-returns-2
-returns-2 c = simp (c .enum-told2 .given .1)
-
-returns-3 : tie.Need-returns-3
-returns-3 c = simp (c .enum-told3 .given .1)
-
-returns-4 : tie.Need-returns-4
-returns-4 c = simp (c .enum-told4 .given .1)
-
-returns-5 : tie.Need-returns-5
-returns-5 c = simp (c .enum-told5 .given .1)
-
-returns-6 : tie.Need-returns-6
-returns-6 c = rw (c .before .item .given .1)
-
-returns-7 : tie.Need-returns-7
-returns-7 c = simp (c .enum-told6 .given .1)
-
-returns-8 : tie.Need-returns-8
-returns-8 c = simp (c .enum-told7 .given .1)
-
-returns-9 : tie.Need-returns-9
-returns-9 c = simp (c .enum-told8 .given .1)
-
-returns-10 : tie.Need-returns-10
-returns-10 c = simp (c .enum-told9 .given .1)
-
-returns-11 : tie.Need-returns-11
-returns-11 c = simp (c .enum-told10 .given .1)
-
-returns-12 : tie.Need-returns-12
-returns-12 c = simp (c .enum-told11 .given .1)
-
-returns-13 : tie.Need-returns-13
-returns-13 c = simp (c .enum-told12 .given .1)
-
-returns-14 : tie.Need-returns-14
-returns-14 c = simp (c .enum-told13 .given .1)
+returns-2 c = let a = c .before .args in other (a .time) (a .scan) (a .item) (a .after) (c .match .keys2)
 
 pub with-high-spec : {M : Type 1} → statement M
-with-high-spec =
-    tie.close
-    (tie.spec
-    (λ c. search needs)
-    (λ c. search needs)
-    (λ c. search needs)
-    (λ c. search needs)
-    (λ c. search needs)
-    (λ c. search needs)
-    (λ c. search needs)
-    (λ c. search needs)
-    (λ c. search needs)
-    (λ c. search needs)
-    (λ c. search needs)
-    (λ c. search needs)
-    (λ c. search needs)
-    (λ c. search needs)
-    returns
-    returns-2
-    returns-3
-    returns-4
-    returns-5
-    returns-6
-    returns-7
-    returns-8
-    returns-9
-    returns-10
-    returns-11
-    returns-12
-    returns-13
-    returns-14)
+with-high-spec = tie.close (tie.spec (λ c. search needs) returns returns-2)
