@@ -30,14 +30,16 @@ use Rattle.reader.specs.declared.Step.{Step}
 use Rattle.reader.specs.declared.Step.the-variants as S
 use Rattle.reader.specs.declared.Judged.{Judged}
 use Rattle.reader.specs.declared.Judged.the-variants as J
-use Rattle.records.specs.declared.answer.Pairs.{Pairs}
-use Rattle.records.specs.declared.raw_item.Pairing.{Pairing}
-use Rattle.records.specs.declared.raw_item.Pairing.the-variants as G
+use Rattle.pairs.specs.declared.Pairs.{Pairs}
+use Rattle.pairs.specs.declared.Pairing.{Pairing}
+use Rattle.pairs.specs.declared.Pairing.the-variants as G
+use Rattle.pairs.specs.Pairs.{pairDue, onPair, pairsFrom}
+use Rattle.records.specs.declared.follow.Fill.{Fill}
 use Rattle.records.specs.declared.answer.Record.{Record}
 use Rattle.records.specs.declared.answer.Record.the-variants as R
 use Rattle.records.specs.declared.answer.Next.{Next}
 use Rattle.records.specs.declared.answer.Next.the-variants as N
-use Rattle.records.specs.Next.{mostCount, fillerAt, AllAre, PairsMade, Made, isPair, startsPair, OfRaw, pairDue, onPair, pairsFrom, withPairs, onHigh, withHigh, timeFrom, onFiller, fillersFrom, recordFrom, onJudged, nextFrom}
+use Rattle.records.specs.Next.{mostCount, fillerAt, AllAre, PairsMade, Made, isPair, startsPair, OfRaw, withPairs, highOf, onHigh, highFrom, withHigh, timeFrom, onFiller, fillFrom, fillersFrom, recordFrom, fromJudged, nextFrom}
 
 -- ---- where a pair is due, only a pair is taken
 
@@ -266,36 +268,30 @@ pairs-say t n (word ∷ words) h = by-due (pairDue (t .phase) (isContinuation wo
     by-due false due r = no-pair t n (word ∷ words) h (none-taken t word words due)
 
 -- fillers in a row, then the run from the scan behind them
-record Filled (slot n : ℕ) (t : Scan) (words : List ℕ) (x : Next) : Type 0 where
-  count : ℕ
-  scan : Scan
-  is : x ≡ N.Took (R.Fillers slot count) scan
+record Filled (slot n : ℕ) (t : Scan) (words : List ℕ) (x : Fill) : Type 0 where
   items : List Item
   all : AllAre (fillerAt slot) items
-  many : count ≡ min (n + length items) mostCount
-  run : readFrom t words ≡ before items (readFrom scan (drop (length items) words))
+  many : x .count ≡ min (n + length items) mostCount
+  run : readFrom t words ≡ before items (readFrom (x .scan) (drop (length items) words))
 
-no-filler : (slot n : ℕ) (t : Scan) (words : List ℕ) → n ≤ mostCount → Filled slot n t words (N.Took (R.Fillers slot n) t)
-no-filler slot n t words h = record { count = n; scan = t; is = refl; items = []; all = tt; many = omega arith; run = refl }
+no-filler : (slot n : ℕ) (t : Scan) (words : List ℕ) → n ≤ mostCount → Filled slot n t words (record { count = n; scan = t })
+no-filler slot n t words h = record { items = []; all = tt; many = omega arith; run = refl }
 
-fillers-say : (slot n : ℕ) (t : Scan) (words : List ℕ) → n ≤ mostCount → unfinished (t .phase) ≡ false → t .slot ≡ slot → Filled slot n t words (fillersFrom slot n t words)
-unfolding fillersFrom fillerOf
-fillers-say slot n t [] h end same = no-filler slot n t [] h
-fillers-say slot n t (word ∷ words) h end same = go (stepAt t word) refl (λ u. fillers-say slot (onward n) u words (onward-le n))
+fill-says : (slot n : ℕ) (t : Scan) (words : List ℕ) → n ≤ mostCount → unfinished (t .phase) ≡ false → t .slot ≡ slot → Filled slot n t words (fillFrom n t words)
+unfolding fillFrom fillerOf
+fill-says slot n t [] h end same = no-filler slot n t [] h
+fill-says slot n t (word ∷ words) h end same = go (stepAt t word) refl (λ u. fill-says slot (onward n) u words (onward-le n))
   where
-    go : (y : Step) → stepAt t word ≡ y → ((u : Scan) → unfinished (u .phase) ≡ false → u .slot ≡ slot → Filled slot (onward n) u words (fillersFrom slot (onward n) u words)) → Filled slot n t (word ∷ words) (onFiller y slot n t (λ u. fillersFrom slot (onward n) u words))
+    go : (y : Step) → stepAt t word ≡ y → ((u : Scan) → unfinished (u .phase) ≡ false → u .slot ≡ slot → Filled slot (onward n) u words (fillFrom (onward n) u words)) → Filled slot n t (word ∷ words) (onFiller y n t (λ u. fillFrom (onward n) u words))
     go (S.Went f u) e r =
         let is = filler-taken t word end e in
         let went : stepAt t word ≡ S.Went F.Filler u = e ∙ ap (λ (g : Form). S.Went g u) is in
         let a = filling t word end (accepted t word went) in
         let b = r u (a .tail) (a .slot ∙ same) in
         record {
-          count = b .count;
-          scan = b .scan;
-          is = b .is;
           items = itemFrom F.Filler word ∷ b .items;
           all = (ap (λ (k : ℕ). fillerAt k) (a .own ∙ same), b .all);
-          many = onward-add n (length (b .items)) (b .count) (b .many);
+          many = onward-add n (length (b .items)) _ (b .many);
           run = read-at t word words (judge-by t word went) ∙ ap (then (itemFrom F.Filler word)) (b .run);
         }
     go (S.Refused k p) e r = no-filler slot n t (word ∷ words) h
@@ -326,17 +322,17 @@ one : (s t : Scan) (word : ℕ) (words : List ℕ) (x : Item) (y : Record) → M
 one s t word words x y m stop e = record { items = x ∷ []; made = m; run = read-at s word words e; stop = stop }
 
 time-says : (s t : Scan) (word : ℕ) (words : List ℕ) (r : TriggerTime) → judgeAt s word ≡ J.Took (I.Clock r) t → SaysNext s (word ∷ words) (timeFrom r t words)
-unfolding timeFrom
+unfolding highFrom
 time-says s t word [] r e = one s t word [] (I.Clock r) (R.Time27 r) refl tt e
 time-says s t word (next ∷ words) r e = by-judged (judgeAt t next) refl
   where
     alone : Taken s (word ∷ next ∷ words) (R.Time27 r) t
     alone = one s t word (next ∷ words) (I.Clock r) (R.Time27 r) refl tt e
 
-    by-judged : (j : Judged) → judgeAt t next ≡ j → SaysNext s (word ∷ next ∷ words) (onHigh j r t)
+    by-judged : (j : Judged) → judgeAt t next ≡ j → SaysNext s (word ∷ next ∷ words) (withHigh r t (onHigh j))
     by-judged (J.Took x u) f = by-item x f
       where
-        by-item : (x : Item) → judgeAt t next ≡ J.Took x u → SaysNext s (word ∷ next ∷ words) (withHigh r t x u)
+        by-item : (x : Item) → judgeAt t next ≡ J.Took x u → SaysNext s (word ∷ next ∷ words) (withHigh r t (highOf x u))
         by-item (I.Block x) f = alone
         by-item (I.Parameters x) f = alone
         by-item (I.Trailer x) f = alone
@@ -378,19 +374,18 @@ raw-says s t word words head make m o at e = go (pairsFrom t 0 words) (pairs-say
         }
     go (G.Bad r place) a = ap (λ (x : Reading). x .out) run ∙ a
 
-fillers-make : (s t : Scan) (word : ℕ) (words : List ℕ) → unfinished (s .phase) ≡ false → Accepted s word F.Filler t → judgeAt s word ≡ J.Took (itemFrom F.Filler word) t → SaysNext s (word ∷ words) (fillersFrom ((fillerOf word) .slot) 1 t words)
+fillers-make : (s t : Scan) (word : ℕ) (words : List ℕ) → unfinished (s .phase) ≡ false → Accepted s word F.Filler t → judgeAt s word ≡ J.Took (itemFrom F.Filler word) t → SaysNext s (word ∷ words) (fillersFrom ((fillerOf word) .slot) t words)
 unfolding fillerOf
 fillers-make s t word words end a e =
     let b = filling s word end a in
     let same : t .slot ≡ (fillerOf word) .slot = b .slot ∙ sym (b .own) in
-    let c = fillers-say ((fillerOf word) .slot) 1 t words (omega arith) (b .tail) same in
-    rw (c .is)
-    (record {
+    let c = fill-says ((fillerOf word) .slot) 1 t words (omega arith) (b .tail) same in
+    record {
       items = itemFrom F.Filler word ∷ c .items;
       made = record { some = omega arith; all = (refl, c .all); many = omega (arith, c .many) };
       run = read-at s word words e ∙ ap (then (itemFrom F.Filler word)) (c .run);
       stop = tt;
-    })
+    }
 
 -- for every scan and all words
 pub next-says : (s : Scan) (words : List ℕ) → SaysNext s words (nextFrom s words)
@@ -420,7 +415,7 @@ next-says s (word ∷ words) = by-step (stepAt s word) refl
     by-form F.No t e a at = absurd (false≢true (sym (a .off .1 .0)))
     by-form F.End t e a at = absurd (false≢true (sym (a .here)))
 
-    by-step : (y : Step) → stepAt s word ≡ y → SaysNext s (word ∷ words) (onJudged (withItem word y) (s .place) words)
+    by-step : (y : Step) → stepAt s word ≡ y → SaysNext s (word ∷ words) (fromJudged (withItem word y) (s .place) words)
     by-step (S.Went f t) e = let a = accepted s word e in by-form f t e a (place-after s t (itemFrom f word) (a .scan))
     by-step (S.Refused n p) e = ap (λ (x : Reading). x .out) (read-at s word words (judge-by s word e))
     by-step S.Ended e = read-at s word words (judge-by s word e)

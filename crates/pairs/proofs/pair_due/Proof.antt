@@ -1,8 +1,8 @@
--- `records::raw_item::pair_due` meets its contract.
+-- `pairs::pair_due` meets its contract.
 use borrow.Author.Needs.{needs}
 use Rattle.reader.specs.Reader.{mostPairs}
-use Rattle.records.proofs.raw_item.pair_due.Statement.{statement}
-use Rattle.records.proofs.raw_item.pair_due.Tie as tie
+use Rattle.pairs.proofs.pair_due.Statement.{statement}
+use Rattle.pairs.proofs.pair_due.Tie as tie
 
 returns-8 : tie.Need-returns-8
 unfolding mostPairs

@@ -1,9 +1,9 @@
--- `records::more` meets its contract.
+-- `pairs::more` meets its contract.
 use native.Mathlib.Omega.{arith}
 use borrow.Author.Needs.{needs}
 use Rattle.reader.specs.Reader.{onward}
-use Rattle.records.proofs.more.Statement.{statement}
-use Rattle.records.proofs.more.Tie as tie
+use Rattle.pairs.proofs.more.Statement.{statement}
+use Rattle.pairs.proofs.more.Tie as tie
 
 returns : tie.Need-returns
 unfolding onward
