@@ -122,8 +122,8 @@ scan-at-end-tied self r p = p
 pub next-tied : (κs : Lfts 1) (words : Lent) (scan : Scan) (r : Next) → records.next.Reads.Learnt κs (words, (scan, tt)) r (words, (scan, tt)) → NextSays (now words) scan r
 next-tied κs words scan r p = p
 
-pub part-tied : (κs : Lfts 1) (words : Lent) (pairs : Pairs) (r : Lent) → pairs.part.Reads.Learnt κs (words, (pairs, tt)) r (words, (pairs, tt)) → now r ≡ partOf (now words) pairs
-part-tied κs words pairs r p = p
+pub part-tied : (κs : Lfts 1) (words : Lent) (p : Pairs) (r : Lent) → pairs.part.Reads.Learnt κs (words, (p, tt)) r (words, (p, tt)) → now r ≡ partOf (now words) p
+part-tied κs words p r e = e
 
 pub list-tied : (κs : Lfts 2) (bytes text text′ : Lent) (r : Listed) → listing.list.Reads.Learnt κs (bytes, (text, tt)) r (bytes, (text′, tt)) → Says (listingOf (now bytes)) (now text) r (now text′)
 list-tied κs bytes text text′ r p = p
