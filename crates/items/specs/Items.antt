@@ -154,3 +154,8 @@ typeOf F.Empty = 14
 typeOf F.Filler = 15
 typeOf F.No = 16
 typeOf F.End = 16
+
+-- a proof that computes opens this file and what it leans on by one name
+unfoldable pub allOpen : Unit {0}
+unfolding wordOf fits Rattle.framing.specs.Words.allOpen Rattle.raw.specs.Words.allOpen Rattle.measures.specs.Words.allOpen
+allOpen = tt

@@ -28,3 +28,8 @@ mostChannel = 3 * mostRaw
 -- "at most 2 + 12,051 x events closed": an event is its header, two time words and sixteen channels
 unfoldable pub mostEvent : ℕ
 mostEvent = 3 + 16 * mostChannel
+
+-- a proof that computes opens this file by one name
+unfoldable pub allOpen : Unit {0}
+unfolding pairsOf mostPairs mostRaw mostPulse mostChannel mostEvent
+allOpen = tt

@@ -115,3 +115,8 @@ linesOf bytes = cond (lengthWrong (length bytes)) (refusedLine 16 0 ∷ []) (lin
 -- the whole text of an input
 unfoldable pub listingOf : List ℕ → List ℕ
 listingOf bytes = textOf (linesOf bytes)
+
+-- a proof that computes opens this file and what it leans on by one name
+unfoldable pub allOpen : Unit {0}
+unfolding itemLines fillersIn blockLines linesFrom linesOf listingOf Rattle.reader.specs.Reader.allOpen Rattle.text.specs.Line.allOpen
+allOpen = tt
