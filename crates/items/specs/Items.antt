@@ -2,7 +2,9 @@
 use Prim.Native.Nat.{ℕ, _*_, _/_, _^_}
 use mathlib.Core.Bool.{Bool, true, cond}
 use mathlib.Core.List.{List, [], _∷_}
+use lib.Dec.{eqb}
 use Rattle.fields.specs.Word.{Field, pack, fit}
+use Rattle.fields.specs.Tag.{isDefining, isContinuation}
 use Rattle.framing.specs.Words.{blockHeader, blockHeaderOf, blockHeaderFixed, parameters, parametersOf, parametersFixed, trailer, trailerOf, eventHeader, eventHeaderOf, triggerTime, triggerTimeOf, triggerTimeHigh, triggerTimeHighOf, triggerTimeHighFixed, empty, emptyOf, filler, fillerOf}
 use Rattle.raw.specs.Words.{window, windowOf, windowFixed, pulseRaw, pulseRawOf, pulseRawFixed, pair, pairOf, pairFixed}
 use Rattle.measures.specs.Words.{integral, integralOf, time, timeOf, timeFixed, pedestal, pedestalOf}
@@ -61,7 +63,7 @@ formOf (I.Pedestal r) = F.Pedestal
 formOf (I.Empty r) = F.Empty
 formOf (I.Filler r) = F.Filler
 
--- the record that a word of that form holds; where none may stand, one that nobody looks at
+-- the record that a word of that form holds
 abbrev pub itemFrom : Form → ℕ → Item
 itemFrom F.Block word = I.Block (blockHeaderOf word)
 itemFrom F.Parameters word = I.Parameters (parametersOf word)
@@ -77,8 +79,6 @@ itemFrom F.Time word = I.Time (timeOf word)
 itemFrom F.Pedestal word = I.Pedestal (pedestalOf word)
 itemFrom F.Empty word = I.Empty (emptyOf word)
 itemFrom F.Filler word = I.Filler (fillerOf word)
-itemFrom F.No word = I.Filler (fillerOf word)
-itemFrom F.End word = I.Filler (fillerOf word)
 
 -- the bits that a word of that form shows fixed are as shown: zero, and module 1
 abbrev pub fixedIn : Form → ℕ → Bool
@@ -96,8 +96,6 @@ fixedIn F.Time word = timeFixed word
 fixedIn F.Pedestal word = true
 fixedIn F.Empty word = true
 fixedIn F.Filler word = true
-fixedIn F.No word = true
-fixedIn F.End word = true
 
 -- a word of that form with its undefined bits as zero: "14 module empty, 15 filler: 26-22 slot, rest undefined, written 0"
 abbrev pub cleanOf : Form → ℕ → ℕ
@@ -115,8 +113,6 @@ cleanOf F.Time word = word
 cleanOf F.Pedestal word = word
 cleanOf F.Empty word = word / 2 ^ 22 * 2 ^ 22
 cleanOf F.Filler word = word / 2 ^ 22 * 2 ^ 22
-cleanOf F.No word = word
-cleanOf F.End word = word
 
 -- bit 31, and the type of a defining word in bits 30-27; a continuation has none
 abbrev pub bitOf : Form → ℕ
@@ -134,8 +130,6 @@ bitOf F.Time = 1
 bitOf F.Pedestal = 1
 bitOf F.Empty = 1
 bitOf F.Filler = 1
-bitOf F.No = 1
-bitOf F.End = 1
 
 abbrev pub typeOf : Form → ℕ
 typeOf F.Block = 0
@@ -152,8 +146,10 @@ typeOf F.Time = 8
 typeOf F.Pedestal = 10
 typeOf F.Empty = 14
 typeOf F.Filler = 15
-typeOf F.No = 16
-typeOf F.End = 16
+
+-- the bits by which a word of that form is known are as it shows: "A defining word has bit 31 set and its type in bits 30-27. A continuation word has bit 31 clear."
+abbrev pub isOf : Form → ℕ → Bool
+isOf f word = cond (eqb (bitOf f) 1) (isDefining (typeOf f) word) (isContinuation word)
 
 -- a proof that computes opens this file and what it leans on by one name
 unfoldable pub allOpen : Unit {0}

@@ -1,6 +1,7 @@
 // The named records of the format: what a word can be, and the word of each.
 ghost use mathlib.Core.Path.{_≡_};
 ghost use Rattle.items.specs.Items.{wordOf, itemFrom, fixedIn};
+
 pub mod put;
 
 use framing::block_header::BlockHeader;
@@ -18,7 +19,7 @@ use raw::pair::SamplePair;
 use raw::pulse_raw::PulseRaw;
 use raw::window::WindowRaw;
 
-// What a word is read as: one of the records, or that none may stand here, or that the block ends before it.
+// Which of the records a word is read as.
 pub enum Form {
     Block,
     Parameters,
@@ -34,8 +35,6 @@ pub enum Form {
     Pedestal,
     Empty,
     Filler,
-    No,
-    End,
 }
 
 // One record with its fields.
@@ -78,7 +77,7 @@ impl Item {
         }
     }
 
-    // The record that a word of that form holds; where no record may stand, one that nobody looks at.
+    // The record that a word of that form holds.
     pub fn take_apart(form: Form, word: u32) -> Item
         ensures { λ r. ⌜ r ≡ itemFrom form word ⌝ }
     {
@@ -97,8 +96,6 @@ impl Item {
             Form::Pedestal => Item::Pedestal(PulsePedestal::take_apart(word)),
             Form::Empty => Item::Empty(ModuleEmpty::take_apart(word)),
             Form::Filler => Item::Filler(Filler::take_apart(word)),
-            Form::No => Item::Filler(Filler::take_apart(word)),
-            Form::End => Item::Filler(Filler::take_apart(word)),
         }
     }
 }
@@ -122,7 +119,5 @@ pub fn fixed(form: Form, word: u32) -> bool
         Form::Pedestal => true,
         Form::Empty => true,
         Form::Filler => true,
-        Form::No => true,
-        Form::End => true,
     }
 }

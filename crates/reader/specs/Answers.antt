@@ -11,12 +11,16 @@ use Rattle.items.specs.Items.{rowOf, formOf, itemFrom, bitOf}
 use Rattle.items.specs.declared.Form.{Form}
 use Rattle.items.specs.declared.Form.the-variants as F
 use Rattle.items.specs.declared.Item.{Item}
-use Rattle.reader.specs.declared.Scan.{Scan}
+use Rattle.scan.specs.declared.Scan.{Scan}
+use Rattle.scan.specs.declared.Meaning.{Meaning}
+use Rattle.scan.specs.declared.Meaning.the-variants as M
+use Rattle.scan.specs.Meaning.{meaningAt, isEnd}
+use Rattle.questions.specs.Questions.{refusalOf}
 use Rattle.reader.specs.declared.Step.{Step}
 use Rattle.reader.specs.declared.Step.the-variants as S
 use Rattle.reader.specs.declared.Judged.{Judged}
 use Rattle.reader.specs.declared.Judged.the-variants as J
-use Rattle.reader.specs.Reader.{formAt, isEnd, refusalOf, stepAt, judgeAt}
+use Rattle.reader.specs.Reader.{stepAt, judgeAt}
 
 -- ---- a record's type and fields
 
@@ -36,8 +40,6 @@ rowType F.Time = 8
 rowType F.Pedestal = 10
 rowType F.Empty = 14
 rowType F.Filler = 15
-rowType F.No = 16
-rowType F.End = 16
 
 -- "fields, high to low": the row behind bit 31, and behind the type where the word has one
 abbrev pub rowFields : Item → List ℕ
@@ -75,18 +77,23 @@ judgedValues J.Ended = []
 
 -- the number of its refusal: 0 where the block ends before it, and where no row of the table holds
 unfoldable pub numberAt : Scan → ℕ → ℕ
-numberAt s word = cond (isEnd (formAt s word)) 0 (refusalOf s (formAt s word) word)
+numberAt s word = cond (isEnd (meaningAt s word)) 0 (refusalOf s (meaningAt s word) word)
 
 -- those values where it is taken; "The refusal names the word's place"; nothing where the block ends before it
-unfoldable pub valuesAt : Scan → ℕ → List ℕ → List ℕ
-valuesAt s word values = cond (isEnd (formAt s word)) [] (cond (eqb (refusalOf s (formAt s word) word) 0) values (s .place ∷ []))
+abbrev pub valuesBy : Scan → Meaning → ℕ → (Form → List ℕ) → List ℕ
+valuesBy s (M.Form f) refusal values = cond (eqb refusal 0) (values f) (s .place ∷ [])
+valuesBy s M.Unallowed refusal values = s .place ∷ []
+valuesBy s M.End refusal values = []
+
+unfoldable pub valuesAt : Scan → ℕ → (Form → List ℕ) → List ℕ
+valuesAt s word values = valuesBy s (meaningAt s word) (refusalOf s (meaningAt s word) word) values
 
 pub record StepSays (s : Scan) (word : ℕ) (r : Step) : Type 0 where
   pub number : stepNumber r ≡ numberAt s word
-  pub values : stepValues r ≡ valuesAt s word (rowType (formAt s word) ∷ [])
+  pub values : stepValues r ≡ valuesAt s word (λ f. rowType f ∷ [])
   pub answer : r ≡ stepAt s word
 
 pub record JudgedSays (s : Scan) (word : ℕ) (r : Judged) : Type 0 where
   pub number : judgedNumber r ≡ numberAt s word
-  pub values : judgedValues r ≡ valuesAt s word (itemValues (itemFrom (formAt s word) word))
+  pub values : judgedValues r ≡ valuesAt s word (λ f. itemValues (itemFrom f word))
   pub answer : r ≡ judgeAt s word

@@ -6,56 +6,62 @@ use mathlib.Core.List.{[], _∷_}
 use borrow.Author.Tests.{eqb-true}
 use lib.Dec.{eqb}
 use Rattle.items.specs.Items.{itemFrom}
-use Rattle.items.specs.declared.Form.{Form}
-use Rattle.reader.specs.declared.Scan.{Scan}
+use Rattle.scan.specs.declared.Scan.{Scan}
+use Rattle.scan.specs.declared.Meaning.{Meaning}
+use Rattle.scan.specs.declared.Meaning.the-variants as M
+use Rattle.scan.specs.Meaning.{meaningAt, isEnd}
+use Rattle.scan.specs.After.{after}
+use Rattle.questions.specs.Questions.{refusalOf}
 use Rattle.reader.specs.declared.Step.{Step}
 use Rattle.reader.specs.declared.Step.the-variants as S
 use Rattle.reader.specs.declared.Judged.{Judged}
-use Rattle.reader.specs.Reader.{formAt, isEnd, refusalOf, after, stepAt, withItem, judgeAt}
-use Rattle.reader.specs.Answers.{rowType, itemValues, stepNumber, stepValues, judgedNumber, judgedValues, numberAt, valuesAt, StepSays, JudgedSays}
+use Rattle.reader.specs.Reader.{stepBy, stepAt, withItem, judgeAt}
+use Rattle.reader.specs.Answers.{rowType, itemValues, stepNumber, stepValues, judgedNumber, judgedValues, numberAt, valuesBy, valuesAt, StepSays, JudgedSays}
 
 module _ (s : Scan) (word : ℕ) where
-  form : Form
-  form = formAt s word
-
-  refusal : ℕ
-  refusal = refusalOf s form word
-
-  -- the step by its two tests
-  by : Bool → Bool → Step
-  by end taken = cond end S.Ended (cond taken (S.Went form (after s (itemFrom form word))) (S.Refused refusal (s .place)))
+  number-by : (m : Meaning) (refusal : ℕ) → stepNumber (stepBy s m word refusal) ≡ cond (isEnd m) 0 refusal
+  number-by (M.Form f) refusal = go (eqb refusal 0) refl
+    where
+      go : (b : Bool) → eqb refusal 0 ≡ b → stepNumber (cond b (S.Went f (after s (itemFrom f word))) (S.Refused refusal (s .place))) ≡ refusal
+      go true e = sym (eqb-true refusal 0 e)
+      go false e = refl
+  number-by M.Unallowed refusal = refl
+  number-by M.End refusal = refl
 
   step-number : stepNumber (stepAt s word) ≡ numberAt s word
-  unfolding stepAt numberAt form refusal by
-  step-number = go (isEnd form) (eqb refusal 0) refl
-    where
-      go : (a b : Bool) → eqb refusal 0 ≡ b → stepNumber (by a b) ≡ cond a 0 refusal
-      go true b e = refl
-      go false true e = sym (eqb-true refusal 0 e)
-      go false false e = refl
+  unfolding stepAt numberAt
+  step-number = number-by (meaningAt s word) (refusalOf s (meaningAt s word) word)
 
-  step-values : stepValues (stepAt s word) ≡ valuesAt s word (rowType (formAt s word) ∷ [])
-  unfolding stepAt valuesAt form refusal by
-  step-values = go (isEnd form) (eqb refusal 0)
+  values-by : (m : Meaning) (refusal : ℕ) → stepValues (stepBy s m word refusal) ≡ valuesBy s m refusal (λ f. rowType f ∷ [])
+  values-by (M.Form f) refusal = go (eqb refusal 0)
     where
-      go : (a b : Bool) → stepValues (by a b) ≡ cond a [] (cond b (rowType form ∷ []) (s .place ∷ []))
-      go true b = refl
-      go false true = refl
-      go false false = refl
+      go : (b : Bool) → stepValues (cond b (S.Went f (after s (itemFrom f word))) (S.Refused refusal (s .place))) ≡ cond b (rowType f ∷ []) (s .place ∷ [])
+      go true = refl
+      go false = refl
+  values-by M.Unallowed refusal = refl
+  values-by M.End refusal = refl
+
+  step-values : stepValues (stepAt s word) ≡ valuesAt s word (λ f. rowType f ∷ [])
+  unfolding stepAt valuesAt
+  step-values = values-by (meaningAt s word) (refusalOf s (meaningAt s word) word)
 
   judged-number : (t : Step) → judgedNumber (withItem word t) ≡ stepNumber t
   judged-number (S.Went f u) = refl
   judged-number (S.Refused n p) = refl
   judged-number S.Ended = refl
 
-  judged-values : judgedValues (withItem word (stepAt s word)) ≡ valuesAt s word (itemValues (itemFrom (formAt s word) word))
-  unfolding stepAt valuesAt form refusal by
-  judged-values = go (isEnd form) (eqb refusal 0)
+  fields-by : (m : Meaning) (refusal : ℕ) → judgedValues (withItem word (stepBy s m word refusal)) ≡ valuesBy s m refusal (λ f. itemValues (itemFrom f word))
+  fields-by (M.Form f) refusal = go (eqb refusal 0)
     where
-      go : (a b : Bool) → judgedValues (withItem word (by a b)) ≡ cond a [] (cond b (itemValues (itemFrom form word)) (s .place ∷ []))
-      go true b = refl
-      go false true = refl
-      go false false = refl
+      go : (b : Bool) → judgedValues (withItem word (cond b (S.Went f (after s (itemFrom f word))) (S.Refused refusal (s .place)))) ≡ cond b (itemValues (itemFrom f word)) (s .place ∷ [])
+      go true = refl
+      go false = refl
+  fields-by M.Unallowed refusal = refl
+  fields-by M.End refusal = refl
+
+  judged-values : judgedValues (withItem word (stepAt s word)) ≡ valuesAt s word (λ f. itemValues (itemFrom f word))
+  unfolding stepAt valuesAt
+  judged-values = fields-by (meaningAt s word) (refusalOf s (meaningAt s word) word)
 
   pub step-says : {r : Step} → r ≡ stepAt s word → StepSays s word r
   step-says e = record { number = ap stepNumber e ∙ step-number; values = ap stepValues e ∙ step-values; answer = e }

@@ -4,19 +4,19 @@ use mathlib.Core.Path.{_≡_, refl, ap, sym, _∙_}
 use mathlib.Core.Bool.{Bool, true, false, cond}
 use mathlib.Core.List.{List, [], _∷_}
 use native.Mathlib.Omega.{arith}
-use lib.Dec.{eqb}
 use lib.ListN.{length, getD, drop}
 use lib.Seq.{drop-cons}
 use Rattle.ground.specs.Tests.{firstOf}
-use Rattle.items.specs.Items.{itemFrom}
-use Rattle.items.specs.declared.Form.{Form}
 use Rattle.items.specs.declared.Item.{Item}
-use Rattle.reader.specs.declared.Scan.{Scan}
+use Rattle.scan.specs.declared.Scan.{Scan}
+use Rattle.scan.specs.Meaning.{unfinished}
+use Rattle.questions.specs.Questions.{atLimit}
 use Rattle.reader.specs.declared.Judged.{Judged}
 use Rattle.reader.specs.declared.Judged.the-variants as J
 use Rattle.reader.specs.declared.Step.{Step}
 use Rattle.reader.specs.declared.Step.the-variants as S
-use Rattle.reader.specs.Reader.{Reading, then, isEnd, formAt, atLimit, refusalOf, after, stepAt, withItem, judgeAt, Whole, Broken, unfinished, endOf, endNumber, outOf, onJudged, readFrom, onStep, checkFrom}
+use Rattle.reader.specs.Reader.{Reading, then, stepAt, withItem, judgeAt, Whole, Broken, endOf, endNumber, outOf, onJudged, readFrom, onStep, checkFrom}
+use Rattle.reader.specs.ReaderLaws.{refused}
 
 -- the list from i on, where it has not ended
 pub cons-at : (xs : List ℕ) (i j : ℕ) → i < length xs → suc i ≡ j → drop i xs ≡ getD xs i 0 ∷ drop j xs
@@ -61,23 +61,20 @@ items-le s (word ∷ words) = go (judgeAt s word) (λ t. items-le t words)
 
 -- a refusal has a number
 pub refused-some : (s : Scan) (word : ℕ) {n p : ℕ} → J.Refused n p ≡ judgeAt s word → Broken n p ≡ outOf n p
-unfolding judgeAt stepAt
-refused-some s word {n} {p} e = go (isEnd (formAt s word)) (eqb (refusalOf s (formAt s word) word) 0) refl e
+unfolding judgeAt
+refused-some s word {n} {p} e = go (stepAt s word) refl e
   where
-    f : Form
-    f = formAt s word
-
-    go : (a b : Bool) → eqb (refusalOf s f word) 0 ≡ b → J.Refused n p ≡ withItem word (cond a S.Ended (cond b (S.Went f (after s (itemFrom f word))) (S.Refused (refusalOf s f word) (s .place)))) → Broken n p ≡ outOf n p
-    go true b h e = let z : _≡_ {A = ℕ} 0 1 = cc in absurd (omega arith)
-    go false true h e = let z : _≡_ {A = ℕ} 0 1 = cc in absurd (omega arith)
-    go false false h e =
-        let m : n ≡ refusalOf s f word = cc in
-        rw (m, h)
+    go : (t : Step) → stepAt s word ≡ t → J.Refused n p ≡ withItem word t → Broken n p ≡ outOf n p
+    go (S.Went f t) i e = let z : _≡_ {A = ℕ} 0 1 = cc in absurd (omega arith)
+    go (S.Refused k q) i e =
+        let m : k ≡ n = cc in
+        rw (rw m at (refused s word i .some))
+    go S.Ended i e = let z : _≡_ {A = ℕ} 0 1 = cc in absurd (omega arith)
 
 -- the input's end as a number: 0 says that the block is whole
 pub end-by : (s : Scan) → endOf s ≡ outOf (endNumber s) (s .place)
 unfolding endOf endNumber firstOf
-end-by s = go (atLimit s) (unfinished (s .phase))
+end-by s = go (atLimit s) (unfinished s)
   where
     go : (a b : Bool) → cond a (Broken 14 (s .place)) (cond b (Broken 11 (s .place)) (Whole (s .place))) ≡ outOf (cond a 14 (cond b 11 0)) (s .place)
     go true b = refl

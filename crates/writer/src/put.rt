@@ -8,12 +8,12 @@ ghost use Rattle.settings.specs.Ranges.{settingsOk};
 ghost use Rattle.items.specs.Items.{wordsOf};
 ghost use Rattle.items.specs.declared.Item.the-variants as I;
 ghost use Rattle.writer.specs.Calls.{blockItems, fillersTo, endItems};
-use items::put::put_item;
 use framing::block_header::BlockHeader;
 use framing::filler::Filler;
 use framing::parameters::Parameters;
 use framing::trailer::BlockTrailer;
 use items::Item;
+use items::put::put_item;
 use settings::Settings;
 
 // Copies a window over the whole of a row.

@@ -1,0 +1,10 @@
+-- `questions::window_wrong` meets its contract.
+use borrow.Author.Needs.{needs}
+use Rattle.questions.proofs.window_wrong.Statement.{statement}
+use Rattle.questions.proofs.window_wrong.Tie as tie
+
+returns : tie.Need-returns
+returns c = cc
+
+pub window-wrong-spec : {M : Type 1} → statement M
+window-wrong-spec = tie.close (tie.spec (λ c κs. search needs) (λ c κs. search needs) (λ c κs. search needs) returns)
