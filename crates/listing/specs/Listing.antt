@@ -6,7 +6,8 @@ use lib.Dec.{eqb, ltb}
 use lib.ListN.{length}
 use Rattle.items.specs.declared.Item.{Item}
 use Rattle.items.specs.declared.Item.the-variants as I
-use Rattle.reader.specs.Reader.{Out, Whole, Broken, Reading, startOf, readFrom}
+use Rattle.scan.specs.After.{startOf}
+use Rattle.reader.specs.Reader.{Out, Whole, Broken, Reading, readFrom}
 use Rattle.fields.specs.Bytes.{wordsOfBytes}
 use Rattle.text.specs.Line.{Line, textOf}
 use Rattle.lines.specs.declared.Second.{Second}

@@ -2,11 +2,11 @@
 ghost use mathlib.Core.List.{[]};
 ghost use mathlib.Core.Path.{_≡_};
 ghost use lib.ListN.{drop};
-ghost use Rattle.reader.specs.Reader.{onward};
 ghost use Rattle.pairs.specs.Pairs.{pairDue, pairsFrom, partOf};
-use reader::Phase;
-use reader::Scan;
+use raw::pair::SamplePair;
 use reader::Step;
+use scan::Scan;
+use scan::Stage;
 
 // Where a raw item's pairs stand: the place of the first, and how many.
 pub struct Pairs {
@@ -20,36 +20,29 @@ pub enum Pairing {
     Bad(u32, u32),
 }
 
-// One more; the largest stays.
-pub fn more(n: u32) -> u32
-    ensures { λ r. ⌜ r ≡ onward n ⌝ }
-{
-    if n == 4294967295 { n } else { n + 1 }
-}
-
 // Whether a pair has to come; `going` says that the next word is a continuation.
-fn pair_due(p: Phase, going: bool) -> bool
-    ensures { λ r. ⌜ r ≡ pairDue p going ⌝ }
+fn pair_due(scan: Scan, going: bool) -> bool
+    ensures { λ r. ⌜ r ≡ pairDue scan going ⌝ }
 {
+    let p = scan.stage;
     match p {
-        Phase::Start => false,
-        Phase::Head => false,
-        Phase::Front => false,
-        Phase::Opened => false,
-        Phase::Timed(_) => false,
-        Phase::Items => false,
-        Phase::Window(_, _) => true,
-        Phase::Raw(n) => (n == 250) | going,
-        Phase::Tail(_) => false,
+        Stage::Start => false,
+        Stage::Head => false,
+        Stage::Front => false,
+        Stage::Opened => false,
+        Stage::Timed(_) => false,
+        Stage::Items => false,
+        Stage::Window(_, _) => true,
+        Stage::Raw(_, some) => !some | going,
+        Stage::Tail(_) => false,
     }
 }
 
 fn pairs_end(scan: Scan, count: u32) -> Pairing
     ensures { λ r. ⌜ r ≡ pairsFrom scan count [] ⌝ }
 {
-    let p = scan.phase;
-    if pair_due(p, false) {
-        Pairing::Bad(scan.at_end(), scan.place)
+    if pair_due(scan, false) {
+        Pairing::Bad(reader::at_end(scan), scan.place)
     } else {
         Pairing::All(count, scan)
     }
@@ -64,13 +57,12 @@ pub fn pairs_from(words: &[u32], from: usize, scan: Scan) -> Pairing
     let mut at = from;
     while at < words.len() {
         let word = words[at];
-        let p = t.phase;
-        if pair_due(p, fields::is_continuation(word)) {
-            let step = t.step(word);
+        if pair_due(t, SamplePair::is(word)) {
+            let step = reader::step_at(t, word);
             match step {
                 Step::Went(_, after) => {
                     t = after;
-                    count = more(count);
+                    count = scan::after::next_place(count);
                     at += 1;
                 }
                 Step::Refused(number, place) => {

@@ -4,9 +4,10 @@ use mathlib.Core.Path.{_≡_, sym, ap, _∙_}
 use mathlib.Core.List.{List, _∷_}
 use native.Mathlib.Omega.{arith}
 use lib.ListN.{length, getD, drop}
-use Rattle.reader.specs.Reader.{onward, stepAt, judgeAt}
+use Rattle.scan.specs.After.{onward}
+use Rattle.reader.specs.Reader.{stepAt, judgeAt}
 use Rattle.reader.specs.RunLaws.{cons-at}
-use Rattle.reader.specs.declared.Scan.{Scan}
+use Rattle.scan.specs.declared.Scan.{Scan}
 use Rattle.reader.specs.declared.Step.{Step}
 use Rattle.reader.specs.declared.Judged.{Judged}
 use Rattle.records.specs.Next.{onHigh, highFrom, onFiller, fillFrom, fromJudged, nextFrom}

@@ -9,8 +9,9 @@ use Rattle.framing.specs.declared.trigger_time.TriggerTime.{TriggerTime}
 use Rattle.raw.specs.declared.pair.SamplePair.{SamplePair}
 use Rattle.items.specs.declared.Item.{Item}
 use Rattle.items.specs.declared.Item.the-variants as I
-use Rattle.reader.specs.Reader.{onward, stepAt, judgeAt, endNumber}
-use Rattle.reader.specs.declared.Scan.{Scan}
+use Rattle.scan.specs.After.{onward}
+use Rattle.reader.specs.Reader.{stepAt, judgeAt, endNumber}
+use Rattle.scan.specs.declared.Scan.{Scan}
 use Rattle.reader.specs.declared.Step.{Step}
 use Rattle.reader.specs.declared.Step.the-variants as S
 use Rattle.reader.specs.declared.Judged.{Judged}

@@ -13,7 +13,7 @@ use pairs::Pairs;
 use raw::pair::SamplePair;
 use raw::pulse_raw::PulseRaw;
 use raw::window::WindowRaw;
-use reader::Scan;
+use scan::Scan;
 
 pub enum Record {
     Block(BlockHeader),

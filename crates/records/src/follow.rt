@@ -5,8 +5,8 @@ ghost use Rattle.records.specs.Next.{highOf, highFrom, fillFrom};
 use framing::trigger_time_high::TriggerTimeHigh;
 use items::Item;
 use reader::Judged;
-use reader::Scan;
 use reader::Step;
+use scan::Scan;
 
 // The second time word and the scan behind it, if one follows.
 pub enum High {
@@ -34,7 +34,7 @@ pub(crate) fn high_from(words: &[u32], from: usize, scan: Scan) -> High
     ensures { λ r. ⌜ r ≡ highFrom scan (drop from (now (words .entry))) ⌝ }
 {
     if from < words.len() {
-        let judged = scan.judge(words[from]);
+        let judged = reader::judge_at(scan, words[from]);
         match judged {
             Judged::Took(item, after) => high_of(item, after),
             Judged::Refused(_, _) => High::Nothing,
@@ -53,11 +53,11 @@ pub(crate) fn fill_from(words: &[u32], from: usize, scan: Scan) -> Fill
     let mut count: u32 = 1;
     let mut at = from;
     while at < words.len() {
-        let step = t.step(words[at]);
+        let step = reader::step_at(t, words[at]);
         match step {
             Step::Went(_, after) => {
                 t = after;
-                count = pairs::more(count);
+                count = scan::after::next_place(count);
                 at += 1;
             }
             Step::Refused(_, _) => {

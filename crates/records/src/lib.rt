@@ -10,7 +10,7 @@ use follow::High;
 use framing::trigger_time::TriggerTime;
 use items::Item;
 use reader::Judged;
-use reader::Scan;
+use scan::Scan;
 
 pub mod answer;
 mod follow;
@@ -69,7 +69,7 @@ fn record_from(words: &[u32], from: usize, item: Item, scan: Scan) -> Next
 fn end_of(scan: Scan) -> Next
     ensures { λ r. ⌜ r ≡ ended (endNumber scan) (scan .place) ⌝ }
 {
-    let number = scan.at_end();
+    let number = reader::at_end(scan);
     if number == 0 {
         Next::End(scan.place)
     } else {
@@ -83,7 +83,7 @@ pub fn next(words: &[u32], scan: Scan) -> Next
 {
     let at = scan.place as usize;
     if at < words.len() {
-        let judged = scan.judge(words[at]);
+        let judged = reader::judge_at(scan, words[at]);
         match judged {
             Judged::Took(item, after) => record_from(words, at + 1, item, after),
             Judged::Refused(number, place) => Next::Refused(number, place),

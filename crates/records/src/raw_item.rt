@@ -9,7 +9,7 @@ use pairs::Pairing;
 use pairs::Pairs;
 use raw::pulse_raw::PulseRaw;
 use raw::window::WindowRaw;
-use reader::Scan;
+use scan::Scan;
 
 pub(crate) fn window_from(words: &[u32], from: usize, window: WindowRaw, scan: Scan) -> Next
     ensures { λ r. ⌜ r ≡ recordFrom (Item.Window window) scan (drop from (now (words .entry))) ⌝ }

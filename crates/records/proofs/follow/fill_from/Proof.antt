@@ -4,7 +4,7 @@ use mathlib.Core.Path.{_≡_, refl, sym, ap, _∙_}
 use native.Mathlib.Omega.{arith}
 use borrow.Author.Needs.{needs}
 use lib.ListN.{length, drop, drop-of-length-le}
-use Rattle.reader.specs.Reader.{onward}
+use Rattle.scan.specs.After.{onward}
 use Rattle.reader.specs.declared.Step.{Step}
 use Rattle.records.specs.Next.{onFiller, fillFrom}
 use Rattle.records.specs.AtLaws.{fill-at}
@@ -18,20 +18,20 @@ abbrev μ-loop : tie.MeasureT-loop
 μ-loop words from t₀ count₀ at₀ t count at = length words - at
 
 -- what is answered of the word that was read
-filled : (c : tie.After-step Inv-loop μ-loop) {y : Step} → c .step .result ≡ y →
+filled : (c : tie.After-step-at Inv-loop μ-loop) {y : Step} → c .step-at .result ≡ y →
     let l = c .before .before .before .loop in
     let a = c .before .before .before .before .before .args in
     fillFrom 1 (a .scan) (drop (a .from) (a .words .now)) ≡ onFiller y (l .count) (l .t) (λ u. fillFrom (onward (l .count)) u (drop (l .at + 1) (a .words .now)))
 filled c e =
     let l = c .before .before .before .loop in
     let a = c .before .before .before .before .before .args in
-    l .inv ∙ fill-at (a .words .now) (l .at) (l .t) (omega arith) (l .count) (c .step .ensures .answer) e
+    l .inv ∙ fill-at (a .words .now) (l .at) (l .t) (omega arith) (l .count) (c .step-at .ensures .answer) e
 
 loop-holds : tie.Need-loop-holds Inv-loop μ-loop
 loop-holds c = refl
 
 loop-again : tie.Need-loop-again Inv-loop μ-loop
-loop-again c = rw (c .more .ensures) (filled (c .before .before .before .before) (c .before .before .step2 .given .1))
+loop-again c = rw (c .next-place .ensures) (filled (c .before .before .before .before) (c .before .before .step .given .1))
 
 returns : tie.Need-returns Inv-loop μ-loop
 returns c = sym (filled (c .before .before) (c .enum-told .given .1))

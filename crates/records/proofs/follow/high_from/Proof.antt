@@ -10,8 +10,8 @@ use Rattle.records.proofs.follow.high_from.Statement.{statement}
 use Rattle.records.proofs.follow.high_from.Tie as tie
 
 -- what is answered of the word that follows
-judged : (c : tie.After-judge) {y : Judged} → c .judge .result ≡ y → let a = c .before .before .before .before .args in highFrom (a .scan) (drop (a .from) (a .words .now)) ≡ onHigh y
-judged c e = let a = c .before .before .before .before .args in high-at (a .words .now) (a .from) (a .scan) (omega arith) (c .judge .ensures .answer) e
+judged : (c : tie.After-judge-at) {y : Judged} → c .judge-at .result ≡ y → let a = c .before .before .before .before .args in highFrom (a .scan) (drop (a .from) (a .words .now)) ≡ onHigh y
+judged c e = let a = c .before .before .before .before .args in high-at (a .words .now) (a .from) (a .scan) (omega arith) (c .judge-at .ensures .answer) e
 
 returns : tie.Need-returns
 returns c = c .high-of .ensures ∙ sym (judged (c .before .before .before .before) (c .before .before .judged .given .1))

@@ -8,7 +8,7 @@ use borrow.Author.Needs.{needs}
 use Rattle.items.specs.declared.Item.{Item}
 use Rattle.items.specs.declared.Item.the-variants as I
 use Rattle.items.proofs.Item.{the-type}
-use Rattle.reader.specs.declared.Scan.{Scan}
+use Rattle.scan.specs.declared.Scan.{Scan}
 use Rattle.records.specs.declared.follow.High.the-variants as H
 use Rattle.records.specs.Next.{highOf}
 use Rattle.records.proofs.follow.high_of.Statement.{statement}
