@@ -16,10 +16,10 @@ use Rattle.reader.specs.declared.Step.{Step}
 use Rattle.reader.specs.declared.Step.the-variants as S
 use Rattle.reader.specs.declared.Judged.{Judged}
 use Rattle.reader.specs.declared.Judged.the-variants as J
-use Rattle.pairs.specs.declared.Pairs.{Pairs}
-use Rattle.pairs.specs.declared.Pairing.{Pairing}
-use Rattle.pairs.specs.declared.Pairing.the-variants as G
-use Rattle.pairs.specs.Pairs.{pairsFrom}
+use Rattle.rawitems.specs.declared.Pairs.{Pairs}
+use Rattle.rawitems.specs.declared.Pairing.{Pairing}
+use Rattle.rawitems.specs.declared.Pairing.the-variants as G
+use Rattle.rawitems.specs.Pairs.{pairsFrom}
 use Rattle.records.specs.declared.follow.High.{High}
 use Rattle.records.specs.declared.follow.High.the-variants as H
 use Rattle.records.specs.declared.follow.Fill.{Fill}

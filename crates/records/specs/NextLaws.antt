@@ -36,10 +36,10 @@ use Rattle.reader.specs.declared.Step.{Step}
 use Rattle.reader.specs.declared.Step.the-variants as S
 use Rattle.reader.specs.declared.Judged.{Judged}
 use Rattle.reader.specs.declared.Judged.the-variants as J
-use Rattle.pairs.specs.declared.Pairs.{Pairs}
-use Rattle.pairs.specs.declared.Pairing.{Pairing}
-use Rattle.pairs.specs.declared.Pairing.the-variants as G
-use Rattle.pairs.specs.Pairs.{dueBy, pairDue, onPair, pairsFrom}
+use Rattle.rawitems.specs.declared.Pairs.{Pairs}
+use Rattle.rawitems.specs.declared.Pairing.{Pairing}
+use Rattle.rawitems.specs.declared.Pairing.the-variants as G
+use Rattle.rawitems.specs.Pairs.{dueBy, pairDue, onPair, pairsFrom}
 use Rattle.records.specs.declared.follow.Fill.{Fill}
 use Rattle.records.specs.declared.answer.Record.{Record}
 use Rattle.records.specs.declared.answer.Record.the-variants as R

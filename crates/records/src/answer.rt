@@ -9,7 +9,7 @@ use framing::trigger_time_high::TriggerTimeHigh;
 use measures::integral::PulseIntegral;
 use measures::pedestal::PulsePedestal;
 use measures::time::PulseTime;
-use pairs::Pairs;
+use rawitems::Pairs;
 use raw::pair::SamplePair;
 use raw::pulse_raw::PulseRaw;
 use raw::window::WindowRaw;

@@ -5,8 +5,8 @@ ghost use Rattle.records.specs.Next.{recordFrom};
 use crate::answer::Next;
 use crate::answer::Record;
 use items::Item;
-use pairs::Pairing;
-use pairs::Pairs;
+use rawitems::Pairing;
+use rawitems::Pairs;
 use raw::pulse_raw::PulseRaw;
 use raw::window::WindowRaw;
 use scan::Scan;
@@ -14,7 +14,7 @@ use scan::Scan;
 pub(crate) fn window_from(words: &[u32], from: usize, window: WindowRaw, scan: Scan) -> Next
     ensures { λ r. ⌜ r ≡ recordFrom (Item.Window window) scan (drop from (now (words .entry))) ⌝ }
 {
-    let pairs = pairs::pairs_from(words, from, scan);
+    let pairs = rawitems::pairs_from(words, from, scan);
     match pairs {
         Pairing::All(count, after) => {
             let part = Pairs {
@@ -30,7 +30,7 @@ pub(crate) fn window_from(words: &[u32], from: usize, window: WindowRaw, scan: S
 pub(crate) fn raw_from(words: &[u32], from: usize, raw: PulseRaw, scan: Scan) -> Next
     ensures { λ r. ⌜ r ≡ recordFrom (Item.Raw raw) scan (drop from (now (words .entry))) ⌝ }
 {
-    let pairs = pairs::pairs_from(words, from, scan);
+    let pairs = rawitems::pairs_from(words, from, scan);
     match pairs {
         Pairing::All(count, after) => {
             let part = Pairs {

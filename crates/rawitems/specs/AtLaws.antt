@@ -11,8 +11,8 @@ use Rattle.reader.specs.Reader.{stepAt}
 use Rattle.reader.specs.RunLaws.{cons-at}
 use Rattle.scan.specs.declared.Scan.{Scan}
 use Rattle.reader.specs.declared.Step.{Step}
-use Rattle.pairs.specs.declared.Pairing.the-variants as G
-use Rattle.pairs.specs.Pairs.{pairDue, onPair, pairsFrom}
+use Rattle.rawitems.specs.declared.Pairing.the-variants as G
+use Rattle.rawitems.specs.Pairs.{pairDue, onPair, pairsFrom}
 
 module _ (words : List ℕ) (i : ℕ) (t : Scan) (h : i < length words) where
   here : drop i words ≡ getD words i 0 ∷ drop (i + 1) words

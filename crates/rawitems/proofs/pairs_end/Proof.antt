@@ -1,9 +1,9 @@
--- `pairs::pairs_end` meets its contract.
+-- `rawitems::pairs_end` meets its contract.
 use borrow.Author.Needs.{needs}
 use Rattle.reader.proofs.Via.{via}
-use Rattle.pairs.specs.Pairs.{pairsFrom}
-use Rattle.pairs.proofs.pairs_end.Statement.{statement}
-use Rattle.pairs.proofs.pairs_end.Tie as tie
+use Rattle.rawitems.specs.Pairs.{pairsFrom}
+use Rattle.rawitems.proofs.pairs_end.Statement.{statement}
+use Rattle.rawitems.proofs.pairs_end.Tie as tie
 
 returns : tie.Need-returns
 unfolding pairsFrom

@@ -12,9 +12,9 @@ use Rattle.scan.specs.declared.Stage.the-variants as P
 use Rattle.scan.specs.declared.Scan.{Scan}
 use Rattle.reader.specs.declared.Step.{Step}
 use Rattle.reader.specs.declared.Step.the-variants as S
-use Rattle.pairs.specs.declared.Pairs.{Pairs}
-use Rattle.pairs.specs.declared.Pairing.{Pairing}
-use Rattle.pairs.specs.declared.Pairing.the-variants as G
+use Rattle.rawitems.specs.declared.Pairs.{Pairs}
+use Rattle.rawitems.specs.declared.Pairing.{Pairing}
+use Rattle.rawitems.specs.declared.Pairing.the-variants as G
 
 abbrev pub dueBy : Stage → Bool → Bool
 dueBy P.Start more = false

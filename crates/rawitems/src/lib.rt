@@ -2,7 +2,7 @@
 ghost use mathlib.Core.List.{[]};
 ghost use mathlib.Core.Path.{_≡_};
 ghost use lib.ListN.{drop};
-ghost use Rattle.pairs.specs.Pairs.{pairDue, pairsFrom, partOf};
+ghost use Rattle.rawitems.specs.Pairs.{pairDue, pairsFrom, partOf};
 use raw::pair::SamplePair;
 use reader::Step;
 use scan::Scan;

@@ -1,7 +1,7 @@
--- `pairs::pair_due` meets its contract.
+-- `rawitems::pair_due` meets its contract.
 use borrow.Author.Needs.{needs}
-use Rattle.pairs.proofs.pair_due.Statement.{statement}
-use Rattle.pairs.proofs.pair_due.Tie as tie
+use Rattle.rawitems.proofs.pair_due.Statement.{statement}
+use Rattle.rawitems.proofs.pair_due.Tie as tie
 
 returns-8 : tie.Need-returns-8
 returns-8 c = cc

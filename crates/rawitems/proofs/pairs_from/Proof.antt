@@ -1,4 +1,4 @@
--- `pairs::pairs_from` meets its contract.
+-- `rawitems::pairs_from` meets its contract.
 use Prim.Native.Nat.{_+_, _-_}
 use mathlib.Core.Path.{_≡_, refl, sym, ap, _∙_}
 use native.Mathlib.Omega.{arith}
@@ -7,10 +7,10 @@ use lib.ListN.{length, drop, drop-of-length-le}
 use Rattle.scan.specs.After.{onward}
 use Rattle.reader.specs.declared.Step.{Step}
 use Rattle.reader.proofs.Via.{via}
-use Rattle.pairs.specs.Pairs.{pairDue, onPair, pairsFrom}
-use Rattle.pairs.specs.AtLaws.{pairs-at, pairs-stop}
-use Rattle.pairs.proofs.pairs_from.Statement.{statement}
-use Rattle.pairs.proofs.pairs_from.Tie as tie
+use Rattle.rawitems.specs.Pairs.{pairDue, onPair, pairsFrom}
+use Rattle.rawitems.specs.AtLaws.{pairs-at, pairs-stop}
+use Rattle.rawitems.proofs.pairs_from.Statement.{statement}
+use Rattle.rawitems.proofs.pairs_from.Tie as tie
 
 abbrev Inv-loop : tie.InvT-loop
 Inv-loop words from t₀ count₀ at₀ t count at = pairsFrom t₀ count₀ (drop from words) ≡ pairsFrom t count (drop at words)
