@@ -105,3 +105,8 @@ channelItems s t c w =
 
 abbrev pub channelWords : Common → ℕ → ℕ → List ℕ → List ℕ
 channelWords s t c w = wordsOf (channelItems s t c w)
+
+-- a proof that computes opens this file and what it leans on by one name
+unfoldable pub allOpen : Unit {0}
+unfolding windowItems setOf rawItems integralItem timeItem pedestalItem partsOf pulseItems pulsesItems channelItems Rattle.finder.specs.Find.allOpen Rattle.items.specs.Items.allOpen
+allOpen = tt

@@ -5,39 +5,25 @@ use mathlib.Core.Bool.{true}
 use mathlib.Core.List.{List, _++_, map}
 use native.Mathlib.Omega.{arith}
 use lib.ListN.{getD, take, set, replicate}
-use Rattle.ground.specs.Search.{scan, least, greatest, total, sumOver}
 use Rattle.ground.specs.Splice.{splice}
-use Rattle.ground.specs.Tests.{allLe, firstOf}
-use Rattle.fields.specs.Word.{fieldAt}
 use Rattle.settings.specs.declared.Settings.{Settings}
-use Rattle.settings.specs.Ranges.{thresholdsOk, ranges, settingsOk}
-use Rattle.samples.specs.Sample.{samplesOk, amp}
-use Rattle.finder.specs.Find.{ampAt, over, firstOver, starts, nextTc, tcFrom, integral, overIn, early, vmin, falls, firstFall, vmid, atMost, n1, fineOf, edgeTime, afterFall, timeAt, pulseAt, pulsesFrom}
-use Rattle.finder.specs.Call.{findTable, findNumber, channelPulses, foundPulses}
-use Rattle.framing.specs.Words.{blockHeader, parameters, eventHeader, triggerTime, triggerTimeHigh, trailer, filler, blockHeaderOf, blockHeaderFixed, blockHeaderWithin, parametersOf, parametersFixed, trailerOf, eventHeaderOf, triggerTimeOf, triggerTimeHighOf, triggerTimeHighFixed, fillerOf}
-use Rattle.measures.specs.Words as M
-use Rattle.items.specs.Items.{wordOf}
-use Rattle.reader.specs.Reader.{Whole, startOf, formAt, atLimit, refusalOf, onward, after, stepAt, judgeAt, endOf, Reading, readFrom}
+use Rattle.find.specs.Call.{findNumber, foundPulses}
+use Rattle.reader.specs.Reader.{Whole, startOf, Reading, readFrom}
 use Rattle.reader.specs.RunLaws.{check-reads}
-use Rattle.channel.specs.Channel.{commonOf, channelItems, partsOf, pulsesItems, pulseItems, integralItem, timeItem, pedestalItem}
-use Rattle.event.specs.Event.{row, rowsOk, timeItems, channelsItems, eventItems}
+use Rattle.channel.specs.Channel.{commonOf, channelItems}
 use Rattle.state.specs.declared.State.{State}
 use Rattle.writer.specs.declared.Answer.{Answer}
 use Rattle.writer.specs.declared.Finished.{Finished}
-use Rattle.state.specs.State.{blockOk, eventOk, wordsOk, noMarks, phaseOk, stateOk, idle, blank, withBlock, withEvent, withMark, withClosed}
-use Rattle.limits.specs.Limits.{pairsOf, mostPairs, mostRaw, mostChannel, mostEvent}
-use Rattle.refusing.specs.Tables.{setUpNumber, openBlockTable, openBlockNumber, openEventTable, openEventNumber, postTable, postNumber, closeTable, closeNumber, finishTable, finishNumber}
-use Rattle.block.specs.Block.{blockItems, fillersTo, endItems}
+use Rattle.state.specs.State.{idle, withBlock, withEvent, withMark, withClosed}
 use Rattle.writer.specs.Calls.{OpenBlockSays, OpenEventSays, PostSays, CloseSays, FinishSays}
-use Rattle.text.specs.Line.{placesOf, decimal, cellsText, lineText, textOf}
-use Rattle.listing.specs.Listing.{itemLines, fillersIn, blockLines, linesFrom, linesOf, listingOf}
+use Rattle.listing.specs.Listing.{listingOf}
 use Rattle.host.specs.Check.{numberOfOut}
 use Rattle.layout.specs.NothingLost.{AllWords}
 use Rattle.layout.specs.Grammar.{Each}
-use Rattle.claims.specs.Bytes.{bytesOfWords, bytesOfText, bytesOfLines}
+use Rattle.claims.specs.Bytes.{bytesOfWords, bytesOfLines}
 use Rattle.claims.specs.ReadsLaws.{reads-whole}
 use Rattle.claims.specs.CheckLaws.{check-bytes}
-use Rattle.claims.specs.Runs.{BenchRun, settingsOf, windowA, blockA, runA, rows, asBench, CallsOf, recordsOf, BlockHolds, IfGiven, Holds}
+use Rattle.claims.specs.Runs.{allOpen, BenchRun, windowA, blockA, runA, rows, asBench, CallsOf, recordsOf, BlockHolds, IfGiven, Holds}
 
 -- ---- run A's block
 
@@ -70,7 +56,7 @@ eventWordsA = take 8 wordsA ++ replicate 2 0
 
 -- by the calls' statements, one after the other
 called : {a b c d e : Answer} {f : Finished} {store words words′ words″ : List ℕ} → CallsOf runA blockA a b c d e f store words words′ words″ → (words″ ≡ wordsA) × (f .length ≡ 10)
-unfolding blockHeader parameters eventHeader triggerTime triggerTimeHigh M.integral M.time M.pedestal trailer filler settingsOf setUpNumber openBlockNumber openBlockTable openEventNumber openEventTable postNumber postTable closeNumber closeTable finishNumber finishTable firstOf settingsOk ranges thresholdsOk samplesOk allLe stateOk phaseOk noMarks blockOk eventOk wordsOk mostEvent mostChannel mostRaw mostPairs pairsOf idle blank withBlock withEvent withMark withClosed blockItems endItems fillersTo eventItems timeItems channelsItems rowsOk row splice wordOf channelItems partsOf pulsesItems pulseItems integralItem timeItem pedestalItem pulsesFrom pulseAt integral sumOver total timeAt early overIn vmin vmid afterFall edgeTime n1 greatest atMost fineOf tcFrom firstOver nextTc firstFall least scan over starts falls ampAt amp
+unfolding allOpen
 called {a} {b} {c} {d} {e} {f} {store} {words} {words′} {words″} r =
     let s0 : a .state ≡ idle settingsA = r .setUp .state in
     let c1 : OpenBlockSays (idle settingsA) (replicate 10 0) 1 1 b words = subst (λ (s : State). OpenBlockSays s (replicate 10 0) 1 1 b words) s0 (r .openBlock) in
@@ -88,11 +74,11 @@ called {a} {b} {c} {d} {e} {f} {store} {words} {words′} {words″} r =
     (c5 .buffer, c5 .size)
 
 read-a : readFrom startOf wordsA ≡ record { items = recordsOf runA blockA; out = Whole 10 }
-unfolding fieldAt blockHeaderOf blockHeaderFixed blockHeaderWithin parametersOf parametersFixed trailerOf eventHeaderOf triggerTimeOf triggerTimeHighOf triggerTimeHighFixed fillerOf M.integralOf M.timeOf M.timeFixed M.pedestalOf formAt atLimit refusalOf onward after stepAt judgeAt endOf readFrom settingsOf firstOf blockItems endItems fillersTo timeItems
+unfolding allOpen
 read-a = refl
 
 listed-a : listingOf (bytesOfWords wordsA) ≡ bytesOfLines (blockA .text)
-unfolding scan least firstOf fieldAt blockHeaderOf blockHeaderFixed blockHeaderWithin parametersOf parametersFixed trailerOf eventHeaderOf triggerTimeOf triggerTimeHighOf triggerTimeHighFixed fillerOf M.integralOf M.timeOf M.timeFixed M.pedestalOf formAt atLimit refusalOf onward after stepAt judgeAt endOf readFrom placesOf decimal cellsText lineText textOf itemLines fillersIn blockLines linesFrom linesOf listingOf bytesOfText bytesOfLines
+unfolding allOpen
 listed-a = refl
 
 all-words : AllWords wordsA
@@ -116,7 +102,7 @@ holds r a f w b = record { accepted = a; found = f; writes = w; inBlock = b }
 
 -- every row is as the bench says
 pub bench-runs : Each Holds rows
-unfolding settingsOf rows asBench findNumber findTable firstOf settingsOk ranges thresholdsOk samplesOk allLe foundPulses channelPulses pulsesFrom pulseAt integral sumOver total timeAt early overIn vmin vmid afterFall edgeTime n1 greatest atMost fineOf tcFrom firstOver nextTc firstFall least scan over starts falls ampAt amp channelItems partsOf pulsesItems pulseItems integralItem timeItem pedestalItem
+unfolding allOpen
 bench-runs = (holds (at 0) refl refl refl block-a, (holds (at 1) refl refl refl tt, (holds (at 2) refl refl refl tt, (holds (at 3) refl refl refl tt, (holds (at 4) refl refl refl tt, (holds (at 5) refl refl refl tt, (holds (at 6) refl refl refl tt, (holds (at 7) refl refl refl tt, (holds (at 8) refl refl refl tt, (holds (at 9) refl refl refl tt, (holds (at 10) refl refl refl tt, (holds (at 11) refl refl refl tt, (holds (at 12) refl refl refl tt, (holds (at 13) refl refl refl tt, (holds (at 14) refl refl refl tt, tt)))))))))))))))
   where
     at : ℕ → BenchRun

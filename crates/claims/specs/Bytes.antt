@@ -19,3 +19,8 @@ bytesOfText (c ∷ᵗ s) = code c ∷ bytesOfText s
 unfoldable pub bytesOfLines : List String → List ℕ
 bytesOfLines [] = []
 bytesOfLines (l ∷ ls) = bytesOfText l ++ (10 ∷ bytesOfLines ls)
+
+-- a proof that computes opens this file by one name
+unfoldable pub allOpen : Unit {0}
+unfolding bytesOfText bytesOfLines
+allOpen = tt

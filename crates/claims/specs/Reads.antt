@@ -8,10 +8,11 @@ use Rattle.items.specs.Items.{wordsOf}
 use Rattle.items.specs.declared.Item.{Item}
 use Rattle.reader.specs.Reader.{onward}
 use Rattle.reader.specs.declared.Scan.{Scan}
-use Rattle.records.specs.declared.answer.Pairs.{Pairs}
+use Rattle.rawitems.specs.declared.Pairs.{Pairs}
 use Rattle.records.specs.declared.answer.Record.{Record}
 use Rattle.records.specs.declared.answer.Next.the-variants as N
-use Rattle.records.specs.Next.{nextAt, partOf, startsPair, Made, OfRaw}
+use Rattle.rawitems.specs.Pairs.{partOf}
+use Rattle.records.specs.Next.{nextAt, startsPair, Made, OfRaw}
 
 -- "a raw item carries place and pair count, and a second call gives that part of the caller's words": the words of its pairs, which are the items
 -- behind its head; what comes after them is no pair

@@ -16,12 +16,13 @@ use Rattle.items.specs.declared.Item.the-variants as I
 use Rattle.reader.specs.Reader.{onward, Whole, Broken, Out, startOf, Reading, readFrom}
 use Rattle.reader.specs.RunLaws.{before}
 use Rattle.reader.specs.declared.Scan.{Scan}
-use Rattle.records.specs.declared.answer.Pairs.{Pairs}
+use Rattle.rawitems.specs.declared.Pairs.{Pairs}
 use Rattle.records.specs.declared.answer.Record.{Record}
 use Rattle.records.specs.declared.answer.Record.the-variants as R
 use Rattle.records.specs.declared.answer.Next.{Next}
 use Rattle.records.specs.declared.answer.Next.the-variants as N
-use Rattle.records.specs.Next.{mostCount, partOf, startsPair, PairsMade, Made, OfRaw, nextFrom, nextAt}
+use Rattle.rawitems.specs.Pairs.{partOf}
+use Rattle.records.specs.Next.{mostCount, startsPair, PairsMade, Made, OfRaw, nextFrom, nextAt}
 use Rattle.records.specs.NextLaws.{SaysNext, next-says}
 use Rattle.state.specs.declared.State.{State}
 use Rattle.writer.specs.declared.Finished.{Finished}

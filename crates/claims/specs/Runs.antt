@@ -224,3 +224,8 @@ pub record Holds (r : BenchRun) : Type 0 where
   -- what the channel writes
   pub writes : channelItems (commonOf (r .settings)) (getD (r .settings .thresholds) (r .channel) 0) (r .channel) (r .window) ≡ r .written
   pub inBlock : IfGiven r (r .block)
+
+-- a proof that computes opens this file and what it leans on by one name
+unfoldable pub allOpen : Unit {0}
+unfolding settingsOf rows asBench Rattle.finder.specs.Call.allOpen Rattle.writer.specs.Calls.allOpen Rattle.listing.specs.Listing.allOpen Rattle.claims.specs.Bytes.allOpen
+allOpen = tt

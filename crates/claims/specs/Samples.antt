@@ -14,7 +14,7 @@ use Rattle.items.specs.declared.Item.{Item}
 use Rattle.items.specs.declared.Item.the-variants as I
 use Rattle.records.specs.declared.answer.Record.{Record}
 use Rattle.records.specs.declared.answer.Record.the-variants as R
-use Rattle.records.specs.Next.{partOf}
+use Rattle.rawitems.specs.Pairs.{partOf}
 use Rattle.reader.specs.declared.Scan.{Scan}
 use Rattle.channel.specs.Channel.{setOf, commonOf, pulsesOf}
 use Rattle.event.specs.Event.{row}

@@ -20,10 +20,11 @@ use Rattle.items.specs.Items.{wordOf, wordsOf, itemIf}
 use Rattle.items.specs.declared.Item.{Item}
 use Rattle.items.specs.declared.Item.the-variants as I
 use Rattle.reader.specs.declared.Scan.{Scan}
-use Rattle.records.specs.declared.answer.Pairs.{Pairs}
+use Rattle.rawitems.specs.declared.Pairs.{Pairs}
 use Rattle.records.specs.declared.answer.Record.{Record}
 use Rattle.records.specs.declared.answer.Record.the-variants as R
-use Rattle.records.specs.Next.{fillerAt, AllAre, isPair, startsPair, PairsMade, Made, OfRaw, partOf}
+use Rattle.rawitems.specs.Pairs.{partOf}
+use Rattle.records.specs.Next.{fillerAt, AllAre, isPair, startsPair, PairsMade, Made, OfRaw}
 use Rattle.channel.specs.declared.Parts.{Parts}
 use Rattle.channel.specs.Channel.{pairItems, windowItems, setOf, rawItems, integralItem, timeItem, pedestalItem, modeTable, rowOfMode, partsOf, pulseItems, pulsesItems, commonOf, pulsesOf, channelItems}
 use Rattle.event.specs.Event.{row, rowsOk, timeItems, channelsItems, eventItems}

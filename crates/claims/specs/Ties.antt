@@ -20,10 +20,11 @@ use Rattle.reader.specs.declared.Step.{Step}
 use Rattle.reader.specs.declared.Judged.{Judged}
 use Rattle.reader.specs.Reader.{startOf, endNumber}
 use Rattle.reader.specs.Answers.{StepSays, JudgedSays}
+use Rattle.rawitems.proofs as rawitems
 use Rattle.records.proofs as records
 use Rattle.records.specs.declared.answer.Next.{Next}
-use Rattle.records.specs.declared.answer.Pairs.{Pairs}
-use Rattle.records.specs.Next.{partOf}
+use Rattle.rawitems.specs.declared.Pairs.{Pairs}
+use Rattle.rawitems.specs.Pairs.{partOf}
 use Rattle.records.specs.Answers.{NextSays}
 use Rattle.host.proofs as host
 use Rattle.host.specs.Check.{checkNumber}
@@ -121,8 +122,8 @@ scan-at-end-tied self r p = p
 pub next-tied : (κs : Lfts 1) (words : Lent) (scan : Scan) (r : Next) → records.next.Reads.Learnt κs (words, (scan, tt)) r (words, (scan, tt)) → NextSays (now words) scan r
 next-tied κs words scan r p = p
 
-pub part-tied : (κs : Lfts 1) (words : Lent) (pairs : Pairs) (r : Lent) → records.part.Reads.Learnt κs (words, (pairs, tt)) r (words, (pairs, tt)) → now r ≡ partOf (now words) pairs
-part-tied κs words pairs r p = p
+pub part-tied : (κs : Lfts 1) (words : Lent) (p : Pairs) (r : Lent) → rawitems.part.Reads.Learnt κs (words, (p, tt)) r (words, (p, tt)) → now r ≡ partOf (now words) p
+part-tied κs words p r e = e
 
 pub list-tied : (κs : Lfts 2) (bytes text text′ : Lent) (r : Listed) → listing.list.Reads.Learnt κs (bytes, (text, tt)) r (bytes, (text′, tt)) → Says (listingOf (now bytes)) (now text) r (now text′)
 list-tied κs bytes text text′ r p = p

@@ -41,6 +41,7 @@ use Rattle.refusing.proofs as refusing
 use Rattle.writer.proofs as writer
 use Rattle.writer.specs.UniqueLaws as W
 use Rattle.reader.proofs.Scan as Scan
+use Rattle.rawitems.proofs as rawitems
 use Rattle.records.proofs as records
 use Rattle.host.proofs as host
 use Rattle.host.specs.UniqueLaws as H
@@ -472,8 +473,8 @@ scan-at-end-unique κs a r s u v p q = by-equation p q
 pub next-unique : Unique records.next.ended records.next.Reads.Learnt
 next-unique κs a r s u v p q = by-equation (p .answer) (q .answer)
 
-pub part-unique : (κs : Lfts 1) (a : Args (records.part.ended .signature) κs) (r s : Res (records.part.ended .signature) κs)
-    → records.part.Reads.Learnt κs a r a → records.part.Reads.Learnt κs a s a → now r ≡ now s
+pub part-unique : (κs : Lfts 1) (a : Args (rawitems.part.ended .signature) κs) (r s : Res (rawitems.part.ended .signature) κs)
+    → rawitems.part.Reads.Learnt κs a r a → rawitems.part.Reads.Learnt κs a s a → now r ≡ now s
 part-unique κs a r s p q = one-result p q
 
 -- host

@@ -43,3 +43,8 @@ channelsItems s store c (posted ∷ more) =
 unfoldable pub eventItems : Settings → ℕ → ℕ → List Bool → List ℕ → List Item
 eventItems s number time posted store =
     I.Event (record { slot = s .slot; number = number }) ∷ (timeItems (s .times) time ++ channelsItems s store 0 posted)
+
+-- a proof that computes opens this file and what it leans on by one name
+unfoldable pub allOpen : Unit {0}
+unfolding row lentOk rowsOk timeItems channelsItems eventItems Rattle.settings.specs.Ranges.allOpen Rattle.channel.specs.Channel.allOpen
+allOpen = tt

@@ -38,3 +38,8 @@ abbrev pub fit : List Field → Bool
 fit [] = true
 fit (f ∷ []) = leb (f .value) (2 ^ widthOf f - 1)
 fit (f ∷ g ∷ fs) = leb (f .value) (2 ^ widthOf f - 1) && fit (g ∷ fs)
+
+-- a proof that computes opens this file by one name
+unfoldable pub allOpen : Unit {0}
+unfolding fieldAt putAt
+allOpen = tt

@@ -119,3 +119,8 @@ searchable n nsa limit = allOf (leb n mostSamples ∷ leb 1 nsa ∷ leb nsa most
 -- the pulses alone, for a caller that made the refusals itself
 unfoldable pub findAll : List ℕ → ℕ → ℕ → ℕ → ℕ → Pulses
 findAll w t nsb nsa limit = packed (cond (searchable (length w) nsa limit) (pulsesFrom w t nsb nsa limit 0) [])
+
+-- a proof that computes opens this file and what it leans on by one name
+unfoldable pub allOpen : Unit {0}
+unfolding ampAt over firstOver overIn starts nextTc tcFrom integral early vmin falls firstFall vmid atMost n1 fineOf edgeTime afterFall timeAt ruleTable pulseAt pulsesFrom noPulse packed searchable findAll Rattle.ground.specs.Search.allOpen Rattle.limits.specs.Limits.allOpen Rattle.samples.specs.Sample.allOpen
+allOpen = tt

@@ -86,3 +86,8 @@ filler r = defining 15 (bits 26 22 (r .slot) ∷ bits 21 0 0 ∷ [])
 
 unfoldable pub fillerOf : ℕ → Filler
 fillerOf word = record { slot = read 26 22 word }
+
+-- a proof that computes opens this file and what it leans on by one name
+unfoldable pub allOpen : Unit {0}
+unfolding blockHeader blockHeaderOf blockHeaderFixed blockHeaderWithin parameters parametersOf parametersFixed trailer trailerOf eventHeader eventHeaderOf triggerTime triggerTimeOf triggerTimeHigh triggerTimeHighOf triggerTimeHighFixed empty emptyOf filler fillerOf Rattle.fields.specs.Word.allOpen
+allOpen = tt

@@ -150,3 +150,8 @@ typeOf F.Filler = 15
 -- the bits by which a word of that form is known are as it shows: "A defining word has bit 31 set and its type in bits 30-27. A continuation word has bit 31 clear."
 abbrev pub isOf : Form → ℕ → Bool
 isOf f word = cond (eqb (bitOf f) 1) (isDefining (typeOf f) word) (isContinuation word)
+
+-- a proof that computes opens this file and what it leans on by one name
+unfoldable pub allOpen : Unit {0}
+unfolding wordOf fits Rattle.framing.specs.Words.allOpen Rattle.raw.specs.Words.allOpen Rattle.measures.specs.Words.allOpen
+allOpen = tt

@@ -32,3 +32,8 @@ channels = 16
 -- "at most 2 + 12,051 x events closed": an event is its header, two time words and sixteen channels
 unfoldable pub mostEvent : ℕ
 mostEvent = 3 + channels * mostChannel
+
+-- a proof that computes opens this file by one name
+unfoldable pub allOpen : Unit {0}
+unfolding pairsOf mostPairs mostRaw mostPulse mostChannel mostEvent
+allOpen = tt

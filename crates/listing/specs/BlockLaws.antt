@@ -15,11 +15,14 @@ use Rattle.items.specs.Items.{itemFrom}
 use Rattle.items.specs.declared.Form.{Form}
 use Rattle.items.specs.declared.Form.the-variants as F
 use Rattle.items.specs.declared.Item.{Item}
-use Rattle.reader.specs.declared.Scan.{Scan}
+use Rattle.scan.specs.declared.Scan.{Scan}
 use Rattle.reader.specs.declared.Step.the-variants as S
 use Rattle.reader.specs.declared.Judged.{Judged}
 use Rattle.reader.specs.declared.Judged.the-variants as J
-use Rattle.reader.specs.Reader.{isEnd, formAt, refusalOf, after, stepAt, withItem, judgeAt, startOf, Out, endNumber, outOf, Reading, then, just, onJudged, readFrom}
+use Rattle.scan.specs.Meaning.{isEnd, meaningAt}
+use Rattle.scan.specs.After.{after, startOf}
+use Rattle.questions.specs.Questions.{refusalOf}
+use Rattle.reader.specs.Reader.{stepAt, withItem, judgeAt, Out, endNumber, outOf, Reading, then, just, onJudged, readFrom}
 use Rattle.reader.specs.RunLaws.{items-le, end-by}
 use Rattle.text.specs.Page.{Page, put}
 use Rattle.text.specs.PageLaws.{put-append}

@@ -6,7 +6,8 @@ use lib.Dec.{eqb, ltb}
 use lib.ListN.{length}
 use Rattle.items.specs.declared.Item.{Item}
 use Rattle.items.specs.declared.Item.the-variants as I
-use Rattle.reader.specs.Reader.{Out, Whole, Broken, Reading, startOf, readFrom}
+use Rattle.scan.specs.After.{startOf}
+use Rattle.reader.specs.Reader.{Out, Whole, Broken, Reading, readFrom}
 use Rattle.fields.specs.Bytes.{wordsOfBytes}
 use Rattle.text.specs.Line.{Line, textOf}
 use Rattle.lines.specs.declared.Second.{Second}
@@ -115,3 +116,8 @@ linesOf bytes = cond (lengthWrong (length bytes)) (refusedLine 16 0 ∷ []) (lin
 -- the whole text of an input
 unfoldable pub listingOf : List ℕ → List ℕ
 listingOf bytes = textOf (linesOf bytes)
+
+-- a proof that computes opens this file and what it leans on by one name
+unfoldable pub allOpen : Unit {0}
+unfolding itemLines fillersIn blockLines linesFrom linesOf listingOf Rattle.reader.specs.Reader.allOpen Rattle.text.specs.Line.allOpen
+allOpen = tt

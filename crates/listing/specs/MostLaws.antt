@@ -19,11 +19,14 @@ use Rattle.items.specs.Items.{itemFrom, fixedIn}
 use Rattle.items.specs.declared.Form.{Form}
 use Rattle.items.specs.declared.Form.the-variants as F
 use Rattle.items.specs.declared.Item.{Item}
-use Rattle.reader.specs.declared.Scan.{Scan}
+use Rattle.scan.specs.declared.Scan.{Scan}
 use Rattle.reader.specs.declared.Judged.{Judged}
 use Rattle.reader.specs.declared.Judged.the-variants as J
 use Rattle.reader.specs.RunLaws.{items-le}
-use Rattle.reader.specs.Reader.{unfinished, atLimit, isEnd, isNo, slotWrong, itemWrong, countWrong, refusalOf, onward, after, formAt, stepAt, withItem, judgeAt, startOf, Out, Whole, Broken, endOf, Reading, just, onJudged, readFrom}
+use Rattle.scan.specs.Meaning.{unfinished, isEnd, isUnallowed, meaningAt}
+use Rattle.scan.specs.After.{onward, after, startOf}
+use Rattle.questions.specs.Questions.{atLimit, slotWrong, itemWrong, countWrong, refusalOf}
+use Rattle.reader.specs.Reader.{stepAt, withItem, judgeAt, Out, Whole, Broken, endOf, Reading, just, onJudged, readFrom}
 use Rattle.reader.specs.declared.Step.the-variants as S
 use Rattle.fields.specs.Bytes.{wordsOfBytes}
 use Rattle.fields.specs.BytesLaws.{words-le}

@@ -34,3 +34,8 @@ pedestal r = defining 10 (bits 26 23 (r .channel) ∷ bits 22 21 (r .pulse) ∷ 
 
 unfoldable pub pedestalOf : ℕ → PulsePedestal
 pedestalOf word = record { channel = read 26 23 word; pulse = read 22 21 word; vmin = read 20 12 word; vpeak = read 11 0 word }
+
+-- a proof that computes opens this file and what it leans on by one name
+unfoldable pub allOpen : Unit {0}
+unfolding integral integralOf time timeOf timeFixed pedestal pedestalOf Rattle.fields.specs.Word.allOpen
+allOpen = tt

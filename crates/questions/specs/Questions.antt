@@ -120,3 +120,8 @@ refusals s m word =
 
 unfoldable pub refusalOf : Scan → Meaning → ℕ → ℕ
 refusalOf s m word = firstOf (refusals s m word)
+
+-- a proof that computes opens this file and what it leans on by one name
+unfoldable pub allOpen : Unit {0}
+unfolding atLimit refusalOf Rattle.ground.specs.Tests.allOpen Rattle.scan.specs.Meaning.allOpen
+allOpen = tt

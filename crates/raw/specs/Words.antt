@@ -47,3 +47,8 @@ pairOf word = record { nofirst = read 29 29 word; first = read 28 16 word; nosec
 -- the bits shown zero are zero
 unfoldable pub pairFixed : ℕ → Bool
 pairFixed word = eqb (read 30 30 word) 0 && eqb (read 15 14 word) 0
+
+-- a proof that computes opens this file and what it leans on by one name
+unfoldable pub allOpen : Unit {0}
+unfolding window windowOf windowFixed windowWithin pulseRaw pulseRawOf pulseRawFixed pair pairOf pairFixed Rattle.fields.specs.Word.allOpen
+allOpen = tt

@@ -85,3 +85,8 @@ onStep S.Ended place go = Whole place
 unfoldable pub checkFrom : Scan → List ℕ → Out
 checkFrom s [] = endOf s
 checkFrom s (word ∷ words) = onStep (stepAt s word) (s .place) (λ t. checkFrom t words)
+
+-- a proof that computes opens this file and what it leans on by one name
+unfoldable pub allOpen : Unit {0}
+unfolding stepAt judgeAt endOf endNumber readFrom checkFrom Rattle.scan.specs.After.allOpen Rattle.questions.specs.Questions.allOpen
+allOpen = tt

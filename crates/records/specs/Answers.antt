@@ -8,7 +8,7 @@ use Rattle.items.specs.declared.Form.the-variants as F
 use Rattle.items.specs.declared.Item.the-variants as I
 use Rattle.reader.specs.Reader.{Broken, readFrom}
 use Rattle.reader.specs.Answers.{rowType, rowFields}
-use Rattle.reader.specs.declared.Scan.{Scan}
+use Rattle.scan.specs.declared.Scan.{Scan}
 use Rattle.records.specs.declared.answer.Record.{Record}
 use Rattle.records.specs.declared.answer.Record.the-variants as R
 use Rattle.records.specs.declared.answer.Next.{Next}

@@ -1,103 +1,92 @@
 -- Document 01, "Reading", record by record: "Each item answers one of a set of named records carrying its fields." Assumes nothing.
-use Prim.Native.Nat.{ℕ, _+_, _-_, _^_, _≤_, min}
+use Prim.Native.Nat.{ℕ, _-_, _^_, _≤_, min}
 use mathlib.Core.Path.{_≡_}
-use mathlib.Core.Bool.{Bool, true, false, cond, _||_}
+use mathlib.Core.Bool.{Bool, true, false, cond}
 use mathlib.Core.List.{List, [], _∷_, map}
-use lib.Dec.{eqb, leb}
-use lib.ListN.{length, take, drop}
-use Rattle.fields.specs.Tag.{isContinuation}
+use lib.Dec.{eqb}
+use lib.ListN.{length, drop}
 use Rattle.framing.specs.declared.trigger_time.TriggerTime.{TriggerTime}
 use Rattle.raw.specs.declared.pair.SamplePair.{SamplePair}
 use Rattle.items.specs.declared.Item.{Item}
 use Rattle.items.specs.declared.Item.the-variants as I
-use Rattle.reader.specs.Reader.{mostPairs, onward, stepAt, judgeAt, endNumber}
-use Rattle.reader.specs.declared.Phase.{Phase}
-use Rattle.reader.specs.declared.Phase.the-variants as P
-use Rattle.reader.specs.declared.Scan.{Scan}
+use Rattle.scan.specs.After.{onward}
+use Rattle.reader.specs.Reader.{stepAt, judgeAt, endNumber}
+use Rattle.scan.specs.declared.Scan.{Scan}
 use Rattle.reader.specs.declared.Step.{Step}
 use Rattle.reader.specs.declared.Step.the-variants as S
 use Rattle.reader.specs.declared.Judged.{Judged}
 use Rattle.reader.specs.declared.Judged.the-variants as J
-use Rattle.records.specs.declared.answer.Pairs.{Pairs}
-use Rattle.records.specs.declared.raw_item.Pairing.{Pairing}
-use Rattle.records.specs.declared.raw_item.Pairing.the-variants as G
+use Rattle.rawitems.specs.declared.Pairs.{Pairs}
+use Rattle.rawitems.specs.declared.Pairing.{Pairing}
+use Rattle.rawitems.specs.declared.Pairing.the-variants as G
+use Rattle.rawitems.specs.Pairs.{pairsFrom}
+use Rattle.records.specs.declared.follow.High.{High}
+use Rattle.records.specs.declared.follow.High.the-variants as H
+use Rattle.records.specs.declared.follow.Fill.{Fill}
 use Rattle.records.specs.declared.answer.Record.{Record}
 use Rattle.records.specs.declared.answer.Record.the-variants as R
 use Rattle.records.specs.declared.answer.Next.{Next}
 use Rattle.records.specs.declared.answer.Next.the-variants as N
 
--- ---- the pairs of a raw item
-
--- "Type 4 has ceil(width/2) pairs, type 6 has 1 to 250": a pair has to come, in type 6 a first one, then while the next word goes on
-abbrev pub pairDue : Phase → Bool → Bool
-pairDue P.Start more = false
-pairDue P.Head more = false
-pairDue P.Front more = false
-pairDue P.Opened more = false
-pairDue (P.Timed d) more = false
-pairDue P.Items more = false
-pairDue (P.Window n odd) more = true
-pairDue (P.Raw n) more = eqb n mostPairs || more
-pairDue (P.Tail n) more = false
-
-abbrev pub onPair : Step → Scan → ℕ → (Scan → Pairing) → Pairing
-onPair (S.Went f u) t n go = go u
-onPair (S.Refused r place) t n go = G.Bad r place
-onPair S.Ended t n go = G.All n t
-
--- the pairs from t on, n of them read; a count grows up to its largest value and stays there
-unfoldable pub pairsFrom : Scan → ℕ → List ℕ → Pairing
-pairsFrom t n [] = cond (pairDue (t .phase) false) (G.Bad (endNumber t) (t .place)) (G.All n t)
-pairsFrom t n (word ∷ words) = cond (pairDue (t .phase) (isContinuation word)) (onPair (stepAt t word) t n (λ u. pairsFrom u (onward n) words)) (G.All n t)
+-- ---- a raw item
 
 -- "a raw item carries place and pair count"
 abbrev pub withPairs : (Pairs → Record) → ℕ → Pairing → Next
 withPairs make place (G.All n u) = N.Took (make (record { place = place; count = n })) u
 withPairs make place (G.Bad r at) = N.Refused r at
 
--- "a second call gives that part of the caller's words (empty if it does not lie in them)"
-unfoldable pub partOf : List ℕ → Pairs → List ℕ
-partOf words p = cond (leb (p .place + p .count) (length words)) (take (p .count) (drop (p .place) words)) []
-
 -- ---- the trigger time: "optionally one or two time words"
 
-abbrev pub withHigh : TriggerTime → Scan → Item → Scan → Next
-withHigh r t (I.Block x) u = N.Took (R.Time27 r) t
-withHigh r t (I.Parameters x) u = N.Took (R.Time27 r) t
-withHigh r t (I.Trailer x) u = N.Took (R.Time27 r) t
-withHigh r t (I.Event x) u = N.Took (R.Time27 r) t
-withHigh r t (I.Clock x) u = N.Took (R.Time27 r) t
-withHigh r t (I.ClockHigh x) u = N.Took (R.Time48 r x) u
-withHigh r t (I.Window x) u = N.Took (R.Time27 r) t
-withHigh r t (I.Raw x) u = N.Took (R.Time27 r) t
-withHigh r t (I.Pair x) u = N.Took (R.Time27 r) t
-withHigh r t (I.Integral x) u = N.Took (R.Time27 r) t
-withHigh r t (I.Time x) u = N.Took (R.Time27 r) t
-withHigh r t (I.Pedestal x) u = N.Took (R.Time27 r) t
-withHigh r t (I.Empty x) u = N.Took (R.Time27 r) t
-withHigh r t (I.Filler x) u = N.Took (R.Time27 r) t
+-- the second time word and the scan behind it, if this item is one
+abbrev pub highOf : Item → Scan → High
+highOf (I.Block x) u = H.Nothing
+highOf (I.Parameters x) u = H.Nothing
+highOf (I.Trailer x) u = H.Nothing
+highOf (I.Event x) u = H.Nothing
+highOf (I.Clock x) u = H.Nothing
+highOf (I.ClockHigh x) u = H.Word x u
+highOf (I.Window x) u = H.Nothing
+highOf (I.Raw x) u = H.Nothing
+highOf (I.Pair x) u = H.Nothing
+highOf (I.Integral x) u = H.Nothing
+highOf (I.Time x) u = H.Nothing
+highOf (I.Pedestal x) u = H.Nothing
+highOf (I.Empty x) u = H.Nothing
+highOf (I.Filler x) u = H.Nothing
 
-abbrev pub onHigh : Judged → TriggerTime → Scan → Next
-onHigh (J.Took x u) r t = withHigh r t x u
-onHigh (J.Refused n place) r t = N.Took (R.Time27 r) t
-onHigh J.Ended r t = N.Took (R.Time27 r) t
+abbrev pub onHigh : Judged → High
+onHigh (J.Took x u) = highOf x u
+onHigh (J.Refused n place) = H.Nothing
+onHigh J.Ended = H.Nothing
+
+-- the same of the word that follows
+unfoldable pub highFrom : Scan → List ℕ → High
+highFrom t [] = H.Nothing
+highFrom t (word ∷ words) = onHigh (judgeAt t word)
+
+abbrev pub withHigh : TriggerTime → Scan → High → Next
+withHigh r t H.Nothing = N.Took (R.Time27 r) t
+withHigh r t (H.Word x u) = N.Took (R.Time48 r x) u
 
 -- a first time word with the second where that follows
-unfoldable pub timeFrom : TriggerTime → Scan → List ℕ → Next
-timeFrom r t [] = N.Took (R.Time27 r) t
-timeFrom r t (word ∷ words) = onHigh (judgeAt t word) r t
+abbrev pub timeFrom : TriggerTime → Scan → List ℕ → Next
+timeFrom r t words = withHigh r t (highFrom t words)
 
 -- ---- the fillers, together
 
-abbrev pub onFiller : Step → ℕ → ℕ → Scan → (Scan → Next) → Next
-onFiller (S.Went f u) slot n t go = go u
-onFiller (S.Refused r place) slot n t go = N.Took (R.Fillers slot n) t
-onFiller S.Ended slot n t go = N.Took (R.Fillers slot n) t
+abbrev pub onFiller : Step → ℕ → Scan → (Scan → Fill) → Fill
+onFiller (S.Went f u) n t go = go u
+onFiller (S.Refused r place) n t go = record { count = n; scan = t }
+onFiller S.Ended n t go = record { count = n; scan = t }
 
 -- as many as follow, n of them read; behind the trailer no other word is taken
-unfoldable pub fillersFrom : ℕ → ℕ → Scan → List ℕ → Next
-fillersFrom slot n t [] = N.Took (R.Fillers slot n) t
-fillersFrom slot n t (word ∷ words) = onFiller (stepAt t word) slot n t (λ u. fillersFrom slot (onward n) u words)
+unfoldable pub fillFrom : ℕ → Scan → List ℕ → Fill
+fillFrom n t [] = record { count = n; scan = t }
+fillFrom n t (word ∷ words) = onFiller (stepAt t word) n t (λ u. fillFrom (onward n) u words)
+
+-- a first filler and those that follow
+abbrev pub fillersFrom : ℕ → Scan → List ℕ → Next
+fillersFrom slot t words = let f : Fill = fillFrom 1 t words in N.Took (R.Fillers slot (f .count)) (f .scan)
 
 -- ---- the next record
 
@@ -116,21 +105,21 @@ recordFrom (I.Integral r) t words = N.Took (R.Integral r) t
 recordFrom (I.Time r) t words = N.Took (R.Time r) t
 recordFrom (I.Pedestal r) t words = N.Took (R.Pedestal r) t
 recordFrom (I.Empty r) t words = N.Took (R.Empty r) t
-recordFrom (I.Filler r) t words = fillersFrom (r .slot) 1 t words
+recordFrom (I.Filler r) t words = fillersFrom (r .slot) t words
 
 -- the input's end: the block's end, or the refusal there
 abbrev pub ended : ℕ → ℕ → Next
 ended refusal place = cond (eqb refusal 0) (N.End place) (N.Refused refusal place)
 
-abbrev pub onJudged : Judged → ℕ → List ℕ → Next
-onJudged (J.Took x t) place words = recordFrom x t words
-onJudged (J.Refused n p) place words = N.Refused n p
-onJudged J.Ended place words = N.End place
+abbrev pub fromJudged : Judged → ℕ → List ℕ → Next
+fromJudged (J.Took x t) place words = recordFrom x t words
+fromJudged (J.Refused n p) place words = N.Refused n p
+fromJudged J.Ended place words = N.End place
 
 -- the words are those from s on
 unfoldable pub nextFrom : Scan → List ℕ → Next
 nextFrom s [] = ended (endNumber s) (s .place)
-nextFrom s (word ∷ words) = onJudged (judgeAt s word) (s .place) words
+nextFrom s (word ∷ words) = fromJudged (judgeAt s word) (s .place) words
 
 -- the words are those from the block's first on
 unfoldable pub nextAt : List ℕ → Scan → Next

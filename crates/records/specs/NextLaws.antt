@@ -1,11 +1,11 @@
 -- Reading on answers what the run over the same words says: the records one after the other, with nothing left out. Assumes nothing.
 use Prim.Native.Nat.{ℕ, suc, _+_, _≤_, min}
-use mathlib.Core.Path.{_≡_, refl, sym, ap, _∙_}
-use mathlib.Core.Bool.{Bool, true, false, cond, false≢true, _||_}
+use mathlib.Core.Path.{_≡_, refl, sym, ap, _∙_, subst}
+use mathlib.Core.Bool.{Bool, true, false, not, cond, false≢true, _||_}
 use mathlib.Core.List.{List, [], _∷_, map}
 use native.Mathlib.Omega.{arith}
 use borrow.Author.Tests.{eqb-true, not-false}
-use lib.Dec.{eqb, ltb}
+use lib.Dec.{eqb}
 use lib.ListN.{length, drop, length-map}
 use Rattle.ground.specs.Tests.{firstOf}
 use Rattle.fields.specs.Word.{read}
@@ -20,145 +20,145 @@ use Rattle.items.specs.declared.Form.{Form}
 use Rattle.items.specs.declared.Form.the-variants as F
 use Rattle.items.specs.declared.Item.{Item}
 use Rattle.items.specs.declared.Item.the-variants as I
-use Rattle.reader.specs.Reader.{mostPairs, moreIn, inner, allowedIn, otherIn, formIn, formAt, isNo, isEnd, unfinished, filled, onward, after, stepAt, withItem, judgeAt, Whole, Broken, endOf, endNumber, just, then, Reading, readFrom, atLimit}
-use Rattle.reader.specs.ReaderLaws.{judge-by, Accepted, accepted, filler-tail}
+use Rattle.scan.specs.Meaning.{moreBy, moreIn, opening, edges, inner, allowedBy, allowedIn, otherBy, otherIn, meaningIn, meaningAt, unfinishedBy, unfinished}
+use Rattle.scan.specs.After.{onward, filledBy, after}
+use Rattle.questions.specs.Questions.{atLimit}
+use Rattle.reader.specs.Reader.{stepAt, withItem, judgeAt, Whole, Broken, endOf, endNumber, just, then, Reading, readFrom}
+use Rattle.scan.specs.MeaningLaws.{filler-tail}
+use Rattle.reader.specs.ReaderLaws.{judge-by, Accepted, accepted}
 use Rattle.reader.specs.RunLaws.{before, read-at, end-by}
-use Rattle.reader.specs.declared.Phase.{Phase}
-use Rattle.reader.specs.declared.Phase.the-variants as P
-use Rattle.reader.specs.declared.Scan.{Scan}
+use Rattle.scan.specs.declared.Stage.{Stage}
+use Rattle.scan.specs.declared.Stage.the-variants as P
+use Rattle.scan.specs.declared.Scan.{Scan}
+use Rattle.scan.specs.declared.Meaning.{Meaning}
+use Rattle.scan.specs.declared.Meaning.the-variants as M
 use Rattle.reader.specs.declared.Step.{Step}
 use Rattle.reader.specs.declared.Step.the-variants as S
 use Rattle.reader.specs.declared.Judged.{Judged}
 use Rattle.reader.specs.declared.Judged.the-variants as J
-use Rattle.records.specs.declared.answer.Pairs.{Pairs}
-use Rattle.records.specs.declared.raw_item.Pairing.{Pairing}
-use Rattle.records.specs.declared.raw_item.Pairing.the-variants as G
+use Rattle.rawitems.specs.declared.Pairs.{Pairs}
+use Rattle.rawitems.specs.declared.Pairing.{Pairing}
+use Rattle.rawitems.specs.declared.Pairing.the-variants as G
+use Rattle.rawitems.specs.Pairs.{dueBy, pairDue, onPair, pairsFrom}
+use Rattle.records.specs.declared.follow.Fill.{Fill}
 use Rattle.records.specs.declared.answer.Record.{Record}
 use Rattle.records.specs.declared.answer.Record.the-variants as R
 use Rattle.records.specs.declared.answer.Next.{Next}
 use Rattle.records.specs.declared.answer.Next.the-variants as N
-use Rattle.records.specs.Next.{mostCount, fillerAt, AllAre, PairsMade, Made, isPair, startsPair, OfRaw, pairDue, onPair, pairsFrom, withPairs, onHigh, withHigh, timeFrom, onFiller, fillersFrom, recordFrom, onJudged, nextFrom}
+use Rattle.records.specs.Next.{mostCount, fillerAt, AllAre, PairsMade, Made, isPair, startsPair, OfRaw, withPairs, highOf, onHigh, highFrom, withHigh, timeFrom, onFiller, fillFrom, fillersFrom, recordFrom, fromJudged, nextFrom}
+
+-- ---- the form of an accepted word, by the scan
+
+-- P holds of the form that a word has
+abbrev OnForm : (Form → Type 0) → Meaning → Type 0
+OnForm P (M.Form f) = P f
+OnForm P M.Unallowed = Unit {0}
+OnForm P M.End = Unit {0}
+
+abbrev OnAll : (Form → Type 0) → List Form → Type 0
+OnAll P [] = Unit {0}
+OnAll P (f ∷ fs) = P f × OnAll P fs
+
+on-listed : (P : Form → Type 0) (other : Meaning) (fs : List Form) (type : ℕ) → OnForm P other → OnAll P fs → OnForm P (meaningIn other fs type)
+on-listed P other [] type h n = h
+on-listed P other (f ∷ fs) type h n = go (eqb type (typeOf f)) (on-listed P other fs type h (n .1))
+  where
+    go : (b : Bool) → OnForm P (meaningIn other fs type) → OnForm P (cond b (M.Form f) (meaningIn other fs type))
+    go true r = n .0
+    go false r = r
+
+-- the same of the word itself, by whether it is a continuation
+on-word : (P : Form → Type 0) (t : Scan) (word : ℕ) {f : Form} → ((b : Bool) → isContinuation word ≡ b → OnForm P (cond b (moreIn t) (meaningIn (otherIn t) (allowedIn t) (read 30 27 word)))) → meaningAt t word ≡ M.Form f → P f
+unfolding meaningAt isContinuation
+on-word P t word h e = subst (OnForm P) e (h (eqb (read 31 31 word) 0) refl)
 
 -- ---- where a pair is due, only a pair is taken
 
-pair-form : (p : Phase) (bit type : ℕ) → pairDue p (eqb bit 0) ≡ true → let f = cond (eqb bit 0) (moreIn p) (formIn (otherIn p) (allowedIn p) type) in isNo f ≡ false → f ≡ F.Pair
-unfolding mostPairs
-pair-form p bit type due ok = go (eqb bit 0) p due ok
+pair-form : (p : Stage) (b : Bool) (type : ℕ) → dueBy p b ≡ true → OnForm (λ f. f ≡ F.Pair) (cond b (moreBy p) (meaningIn (otherBy p) (allowedBy p) type))
+pair-form P.Start b type due = absurd (false≢true due)
+pair-form P.Head b type due = absurd (false≢true due)
+pair-form P.Front b type due = absurd (false≢true due)
+pair-form P.Opened b type due = absurd (false≢true due)
+pair-form (P.Timed d) b type due = absurd (false≢true due)
+pair-form P.Items b type due = absurd (false≢true due)
+pair-form (P.Window n odd) true type due = refl
+pair-form (P.Window n odd) false type due = tt
+pair-form (P.Raw n some) true type due = go (eqb n 0)
   where
-    raw-more : (b : Bool) → isNo (cond b F.No F.Pair) ≡ false → cond b F.No F.Pair ≡ F.Pair
-    raw-more true ok = absurd (false≢true (sym ok))
-    raw-more false ok = refl
+    go : (b : Bool) → OnForm (λ f. f ≡ F.Pair) (cond b M.Unallowed (M.Form F.Pair))
+    go true = tt
+    go false = refl
+pair-form (P.Raw n true) false type due = absurd (false≢true due)
+pair-form (P.Raw n false) false type due = tt
+pair-form (P.Tail n) b type due = absurd (false≢true due)
 
-    raw-type : (n : ℕ) → n ≡ 250 → isNo (formIn F.No (allowedIn (P.Raw n)) type) ≡ false → formIn F.No (allowedIn (P.Raw n)) type ≡ F.Pair
-    raw-type n e ok = absurd (false≢true (sym (rw e at ok)))
-
-    whole : (b : Bool) → b || false ≡ true → b ≡ true
-    whole true h = refl
-    whole false h = h
-
-    go : (b : Bool) (p : Phase) → pairDue p b ≡ true → isNo (cond b (moreIn p) (formIn (otherIn p) (allowedIn p) type)) ≡ false → cond b (moreIn p) (formIn (otherIn p) (allowedIn p) type) ≡ F.Pair
-    go b P.Start due ok = absurd (false≢true due)
-    go b P.Head due ok = absurd (false≢true due)
-    go b P.Front due ok = absurd (false≢true due)
-    go b P.Opened due ok = absurd (false≢true due)
-    go b (P.Timed d) due ok = absurd (false≢true due)
-    go b P.Items due ok = absurd (false≢true due)
-    go true (P.Window n odd) due ok = refl
-    go false (P.Window n odd) due ok = absurd (false≢true (sym ok))
-    go true (P.Raw n) due ok = raw-more (eqb n 0) ok
-    go false (P.Raw n) due ok = raw-type n (eqb-true n 250 (whole (eqb n 250) due)) ok
-    go b (P.Tail n) due ok = absurd (false≢true due)
-
-pair-taken : (t : Scan) (word : ℕ) {f : Form} {u : Scan} → pairDue (t .phase) (isContinuation word) ≡ true → stepAt t word ≡ S.Went f u → judgeAt t word ≡ J.Took (I.Pair (pairOf word)) u
-unfolding formAt isContinuation
+pair-taken : (t : Scan) (word : ℕ) {f : Form} {u : Scan} → pairDue t (isContinuation word) ≡ true → stepAt t word ≡ S.Went f u → judgeAt t word ≡ J.Took (I.Pair (pairOf word)) u
 pair-taken t word {f} {u} due e =
-    let a = accepted t word e in
-    let ok : isNo f ≡ false = a .off .1 .0 in
-    let is : f ≡ F.Pair = sym (a .form) ∙ pair-form (t .phase) (read 31 31 word) (read 30 27 word) due (ap isNo (a .form) ∙ ok) in
+    let is : f ≡ F.Pair = on-word (λ g. g ≡ F.Pair) t word (λ b h. pair-form (t .stage) b (read 30 27 word) (sym (ap (pairDue t) h) ∙ due)) (accepted t word e .form) in
     judge-by t word e ∙ ap (λ (g : Form). J.Took (itemFrom g word) u) is
 
 -- ---- where no pair is due, none is taken
 
-abbrev NonePair : List Form → ℕ → Type 0
-NonePair [] word = Unit {0}
-NonePair (f ∷ fs) word = (isPair (itemFrom f word) ≡ false) × NonePair fs word
-
-none-listed : (other : Form) (fs : List Form) (type word : ℕ) → isPair (itemFrom other word) ≡ false → NonePair fs word → isPair (itemFrom (formIn other fs type) word) ≡ false
-none-listed other [] type word h n = h
-none-listed other (f ∷ fs) type word h n = go (eqb type (typeOf f)) (none-listed other fs type word h (n .1))
-  where
-    go : (b : Bool) → isPair (itemFrom (formIn other fs type) word) ≡ false → isPair (itemFrom (cond b f (formIn other fs type)) word) ≡ false
-    go true r = n .0
-    go false r = r
-
-none-form : (p : Phase) (b : Bool) (type word : ℕ) → pairDue p b ≡ false → isPair (itemFrom (cond b (moreIn p) (formIn (otherIn p) (allowedIn p) type)) word) ≡ false
-none-form P.Start true type word due = refl
-none-form P.Start false type word due = none-listed F.No (allowedIn P.Start) type word refl (refl, (refl, tt))
+none-form : (p : Stage) (b : Bool) (type word : ℕ) → dueBy p b ≡ false → OnForm (λ g. isPair (itemFrom g word) ≡ false) (cond b (moreBy p) (meaningIn (otherBy p) (allowedBy p) type))
+none-form P.Start true type word due = tt
+none-form P.Start false type word due = on-listed (λ g. isPair (itemFrom g word) ≡ false) M.Unallowed opening type tt (refl, (refl, tt))
 none-form P.Head true type word due = refl
-none-form P.Head false type word due = none-listed F.No (allowedIn P.Head) type word refl (refl, (refl, tt))
-none-form P.Front true type word due = refl
-none-form P.Front false type word due = none-listed F.No (allowedIn P.Front) type word refl (refl, (refl, tt))
-none-form P.Opened true type word due = refl
-none-form P.Opened false type word due = none-listed F.No (allowedIn P.Opened) type word refl (refl, (refl, (refl, (refl, (refl, (refl, (refl, (refl, tt))))))))
+none-form P.Head false type word due = on-listed (λ g. isPair (itemFrom g word) ≡ false) M.Unallowed edges type tt (refl, (refl, tt))
+none-form P.Front true type word due = tt
+none-form P.Front false type word due = on-listed (λ g. isPair (itemFrom g word) ≡ false) M.Unallowed edges type tt (refl, (refl, tt))
+none-form P.Opened true type word due = tt
+none-form P.Opened false type word due = on-listed (λ g. isPair (itemFrom g word) ≡ false) M.Unallowed (F.Clock ∷ inner) type tt (refl, (refl, (refl, (refl, (refl, (refl, (refl, (refl, tt))))))))
 none-form (P.Timed d) true type word due = refl
-none-form (P.Timed d) false type word due = none-listed F.No inner type word refl (refl, (refl, (refl, (refl, (refl, (refl, (refl, tt)))))))
-none-form P.Items true type word due = refl
-none-form P.Items false type word due = none-listed F.No inner type word refl (refl, (refl, (refl, (refl, (refl, (refl, (refl, tt)))))))
+none-form (P.Timed d) false type word due = on-listed (λ g. isPair (itemFrom g word) ≡ false) M.Unallowed inner type tt (refl, (refl, (refl, (refl, (refl, (refl, (refl, tt)))))))
+none-form P.Items true type word due = tt
+none-form P.Items false type word due = on-listed (λ g. isPair (itemFrom g word) ≡ false) M.Unallowed inner type tt (refl, (refl, (refl, (refl, (refl, (refl, (refl, tt)))))))
 none-form (P.Window n odd) b type word due = absurd (false≢true (sym due))
-none-form (P.Raw n) true type word due = absurd (false≢true (sym (always (eqb n mostPairs) due)))
+none-form (P.Raw n some) true type word due = absurd (false≢true (sym (always (not some) due)))
   where
     always : (a : Bool) → a || true ≡ false → true ≡ false
     always true h = h
     always false h = h
-none-form (P.Raw n) false type word due = none-listed F.No (cond (ltb n mostPairs) inner []) type word refl (go (ltb n mostPairs))
+none-form (P.Raw n some) false type word due = on-listed (λ g. isPair (itemFrom g word) ≡ false) M.Unallowed (cond some inner []) type tt (go some)
   where
-    go : (b : Bool) → NonePair (cond b inner []) word
+    go : (b : Bool) → OnAll (λ g. isPair (itemFrom g word) ≡ false) (cond b inner [])
     go true = (refl, (refl, (refl, (refl, (refl, (refl, (refl, tt)))))))
     go false = tt
-none-form (P.Tail n) true type word due = refl
-none-form (P.Tail n) false type word due = none-listed F.End (cond (eqb n 0) [] (F.Filler ∷ [])) type word refl (go (eqb n 0))
+none-form (P.Tail n) true type word due = tt
+none-form (P.Tail n) false type word due = on-listed (λ g. isPair (itemFrom g word) ≡ false) M.End (cond (eqb n 0) [] (F.Filler ∷ [])) type tt (go (eqb n 0))
   where
-    go : (b : Bool) → NonePair (cond b [] (F.Filler ∷ [])) word
+    go : (b : Bool) → OnAll (λ g. isPair (itemFrom g word) ≡ false) (cond b [] (F.Filler ∷ []))
     go true = tt
     go false = (refl, tt)
 
-none-taken : (t : Scan) (word : ℕ) (words : List ℕ) → pairDue (t .phase) (isContinuation word) ≡ false → startsPair ((readFrom t (word ∷ words)) .items) ≡ false
-unfolding formAt isContinuation
+none-taken : (t : Scan) (word : ℕ) (words : List ℕ) → pairDue t (isContinuation word) ≡ false → startsPair ((readFrom t (word ∷ words)) .items) ≡ false
 none-taken t word words due = go (stepAt t word) refl
   where
     go : (y : Step) → stepAt t word ≡ y → startsPair ((readFrom t (word ∷ words)) .items) ≡ false
     go (S.Went f u) e =
         ap (λ (x : Reading). startsPair (x .items)) (read-at t word words (judge-by t word e))
-        ∙ (ap (λ (g : Form). isPair (itemFrom g word)) (sym (accepted t word e .form)) ∙ none-form (t .phase) (eqb (read 31 31 word) 0) (read 30 27 word) word due)
+        ∙ on-word (λ g. isPair (itemFrom g word) ≡ false) t word (λ b h. none-form (t .stage) b (read 30 27 word) word (sym (ap (pairDue t) h) ∙ due)) (accepted t word e .form)
     go (S.Refused n p) e = ap (λ (x : Reading). startsPair (x .items)) (read-at t word words (judge-by t word e))
     go S.Ended e = ap (λ (x : Reading). startsPair (x .items)) (read-at t word words (judge-by t word e))
 
 -- ---- behind the trailer, only a filler of the block's slot is taken
 
-filler-form : (p : Phase) (bit type : ℕ) → unfinished p ≡ false → let f = cond (eqb bit 0) (moreIn p) (formIn (otherIn p) (allowedIn p) type) in isEnd f ≡ false → f ≡ F.Filler
-filler-form p bit type end ok = go (eqb bit 0) p end ok
+filler-form : (p : Stage) (b : Bool) (type : ℕ) → unfinishedBy p ≡ false → OnForm (λ f. f ≡ F.Filler) (cond b (moreBy p) (meaningIn (otherBy p) (allowedBy p) type))
+filler-form P.Start b type end = absurd (false≢true (sym end))
+filler-form P.Head b type end = absurd (false≢true (sym end))
+filler-form P.Front b type end = absurd (false≢true (sym end))
+filler-form P.Opened b type end = absurd (false≢true (sym end))
+filler-form (P.Timed d) b type end = absurd (false≢true (sym end))
+filler-form P.Items b type end = absurd (false≢true (sym end))
+filler-form (P.Window n odd) b type end = absurd (false≢true (sym end))
+filler-form (P.Raw n some) b type end = absurd (false≢true (sym end))
+filler-form (P.Tail n) true type end = tt
+filler-form (P.Tail n) false type end = on-listed (λ f. f ≡ F.Filler) M.End (cond (eqb n 0) [] (F.Filler ∷ [])) type tt (go (eqb n 0))
   where
-    last : (b : Bool) → isEnd (cond b F.Filler F.End) ≡ false → cond b F.Filler F.End ≡ F.Filler
-    last true ok = refl
-    last false ok = absurd (false≢true (sym ok))
+    go : (b : Bool) → OnAll (λ f. f ≡ F.Filler) (cond b [] (F.Filler ∷ []))
+    go true = tt
+    go false = (refl, tt)
 
-    listed : (b : Bool) → isEnd (formIn F.End (cond b [] (F.Filler ∷ [])) type) ≡ false → formIn F.End (cond b [] (F.Filler ∷ [])) type ≡ F.Filler
-    listed true ok = absurd (false≢true (sym ok))
-    listed false ok = last (eqb type 15) ok
-
-    go : (b : Bool) (p : Phase) → unfinished p ≡ false → isEnd (cond b (moreIn p) (formIn (otherIn p) (allowedIn p) type)) ≡ false → cond b (moreIn p) (formIn (otherIn p) (allowedIn p) type) ≡ F.Filler
-    go b P.Start end ok = absurd (false≢true (sym end))
-    go b P.Head end ok = absurd (false≢true (sym end))
-    go b P.Front end ok = absurd (false≢true (sym end))
-    go b P.Opened end ok = absurd (false≢true (sym end))
-    go b (P.Timed d) end ok = absurd (false≢true (sym end))
-    go b P.Items end ok = absurd (false≢true (sym end))
-    go b (P.Window n odd) end ok = absurd (false≢true (sym end))
-    go b (P.Raw n) end ok = absurd (false≢true (sym end))
-    go true (P.Tail n) end ok = absurd (false≢true (sym ok))
-    go false (P.Tail n) end ok = listed (eqb n 0) ok
-
-filled-end : (p : Phase) → unfinished p ≡ false → unfinished (filled p) ≡ false
+filled-end : (p : Stage) → unfinishedBy p ≡ false → unfinishedBy (filledBy p) ≡ false
 filled-end P.Start end = end
 filled-end P.Head end = end
 filled-end P.Front end = end
@@ -166,30 +166,27 @@ filled-end P.Opened end = end
 filled-end (P.Timed d) end = end
 filled-end P.Items end = end
 filled-end (P.Window n odd) end = end
-filled-end (P.Raw n) end = end
+filled-end (P.Raw n some) end = end
 filled-end (P.Tail n) end = refl
 
 record Filling (t : Scan) (word : ℕ) (u : Scan) : Type 0 where
   own : (fillerOf word) .slot ≡ t .slot
-  tail : unfinished (u .phase) ≡ false
+  tail : unfinished u ≡ false
   slot : u .slot ≡ t .slot
 
 -- a filler that was taken
-filling : (t : Scan) (word : ℕ) {u : Scan} → unfinished (t .phase) ≡ false → Accepted t word F.Filler u → Filling t word u
+filling : (t : Scan) (word : ℕ) {u : Scan} → unfinished t ≡ false → Accepted t word F.Filler u → Filling t word u
 unfolding fillerOf after
 filling t word {u} end a =
     let same : read 26 22 word ≡ t .slot = eqb-true _ _ (not-false _ (a .off .1 .1 .0)) in
     record {
       own = same;
-      tail = ap (λ (x : Scan). unfinished (x .phase)) (a .scan) ∙ filled-end (t .phase) end;
+      tail = ap unfinished (a .scan) ∙ filled-end (t .stage) end;
       slot = ap (λ (x : Scan). x .slot) (a .scan);
     }
 
-filler-taken : (t : Scan) (word : ℕ) {f : Form} {u : Scan} → unfinished (t .phase) ≡ false → stepAt t word ≡ S.Went f u → f ≡ F.Filler
-unfolding formAt
-filler-taken t word {f} end e =
-    let a = accepted t word e in
-    sym (a .form) ∙ filler-form (t .phase) (read 31 31 word) (read 30 27 word) end (ap isEnd (a .form) ∙ a .here)
+filler-taken : (t : Scan) (word : ℕ) {f : Form} {u : Scan} → unfinished t ≡ false → stepAt t word ≡ S.Went f u → f ≡ F.Filler
+filler-taken t word end e = on-word (λ g. g ≡ F.Filler) t word (λ b h. filler-form (t .stage) b (read 30 27 word) end) (accepted t word e .form)
 
 -- ---- the pairs and the fillers of a run
 
@@ -215,7 +212,7 @@ SaysPairs t n words (G.Bad r at) = (readFrom t words) .out ≡ Broken r at
 no-pair : (t : Scan) (n : ℕ) (words : List ℕ) → n ≤ mostCount → startsPair ((readFrom t words) .items) ≡ false → Paired t words n n t
 no-pair t n words h stop = record { pairs = []; many = omega arith; run = refl; stop = stop }
 
-due-unfinished : (p : Phase) (b : Bool) → pairDue p b ≡ true → unfinished p ≡ true
+due-unfinished : (p : Stage) (b : Bool) → dueBy p b ≡ true → unfinishedBy p ≡ true
 due-unfinished P.Start b due = refl
 due-unfinished P.Head b due = refl
 due-unfinished P.Front b due = refl
@@ -223,10 +220,10 @@ due-unfinished P.Opened b due = refl
 due-unfinished (P.Timed d) b due = refl
 due-unfinished P.Items b due = refl
 due-unfinished (P.Window n odd) b due = refl
-due-unfinished (P.Raw n) b due = refl
+due-unfinished (P.Raw n some) b due = refl
 due-unfinished (P.Tail n) b due = due
 
-end-broken : (s : Scan) → unfinished (s .phase) ≡ true → endOf s ≡ Broken (endNumber s) (s .place)
+end-broken : (s : Scan) → unfinished s ≡ true → endOf s ≡ Broken (endNumber s) (s .place)
 unfolding endOf endNumber firstOf
 end-broken s h = rw h (go (atLimit s))
   where
@@ -236,14 +233,14 @@ end-broken s h = rw h (go (atLimit s))
 
 pairs-say : (t : Scan) (n : ℕ) (words : List ℕ) → n ≤ mostCount → SaysPairs t n words (pairsFrom t n words)
 unfolding pairsFrom readFrom
-pairs-say t n [] h = go (pairDue (t .phase) false) refl
+pairs-say t n [] h = go (pairDue t false) refl
   where
-    go : (b : Bool) → pairDue (t .phase) false ≡ b → SaysPairs t n [] (cond b (G.Bad (endNumber t) (t .place)) (G.All n t))
-    go true due = end-broken t (due-unfinished (t .phase) false due)
+    go : (b : Bool) → pairDue t false ≡ b → SaysPairs t n [] (cond b (G.Bad (endNumber t) (t .place)) (G.All n t))
+    go true due = end-broken t (due-unfinished (t .stage) false due)
     go false due = no-pair t n [] h refl
-pairs-say t n (word ∷ words) h = by-due (pairDue (t .phase) (isContinuation word)) refl (λ u. pairs-say u (onward n) words (onward-le n))
+pairs-say t n (word ∷ words) h = by-due (pairDue t (isContinuation word)) refl (λ u. pairs-say u (onward n) words (onward-le n))
   where
-    by-step : (y : Step) → stepAt t word ≡ y → pairDue (t .phase) (isContinuation word) ≡ true → ((u : Scan) → SaysPairs u (onward n) words (pairsFrom u (onward n) words)) → SaysPairs t n (word ∷ words) (onPair y t n (λ u. pairsFrom u (onward n) words))
+    by-step : (y : Step) → stepAt t word ≡ y → pairDue t (isContinuation word) ≡ true → ((u : Scan) → SaysPairs u (onward n) words (pairsFrom u (onward n) words)) → SaysPairs t n (word ∷ words) (onPair y t n (λ u. pairsFrom u (onward n) words))
     by-step (S.Went f u) e due r = more (pairsFrom u (onward n) words) (r u)
       where
         run : readFrom t (word ∷ words) ≡ then (I.Pair (pairOf word)) (readFrom u words)
@@ -261,41 +258,35 @@ pairs-say t n (word ∷ words) h = by-due (pairDue (t .phase) (isContinuation wo
     by-step (S.Refused k p) e due r = ap (λ (x : Reading). x .out) (read-at t word words (judge-by t word e))
     by-step S.Ended e due r = no-pair t n (word ∷ words) h (ap (λ (x : Reading). startsPair (x .items)) (read-at t word words (judge-by t word e)))
 
-    by-due : (b : Bool) → pairDue (t .phase) (isContinuation word) ≡ b → ((u : Scan) → SaysPairs u (onward n) words (pairsFrom u (onward n) words)) → SaysPairs t n (word ∷ words) (cond b (onPair (stepAt t word) t n (λ u. pairsFrom u (onward n) words)) (G.All n t))
+    by-due : (b : Bool) → pairDue t (isContinuation word) ≡ b → ((u : Scan) → SaysPairs u (onward n) words (pairsFrom u (onward n) words)) → SaysPairs t n (word ∷ words) (cond b (onPair (stepAt t word) t n (λ u. pairsFrom u (onward n) words)) (G.All n t))
     by-due true due r = by-step (stepAt t word) refl due r
     by-due false due r = no-pair t n (word ∷ words) h (none-taken t word words due)
 
 -- fillers in a row, then the run from the scan behind them
-record Filled (slot n : ℕ) (t : Scan) (words : List ℕ) (x : Next) : Type 0 where
-  count : ℕ
-  scan : Scan
-  is : x ≡ N.Took (R.Fillers slot count) scan
+record Filled (slot n : ℕ) (t : Scan) (words : List ℕ) (x : Fill) : Type 0 where
   items : List Item
   all : AllAre (fillerAt slot) items
-  many : count ≡ min (n + length items) mostCount
-  run : readFrom t words ≡ before items (readFrom scan (drop (length items) words))
+  many : x .count ≡ min (n + length items) mostCount
+  run : readFrom t words ≡ before items (readFrom (x .scan) (drop (length items) words))
 
-no-filler : (slot n : ℕ) (t : Scan) (words : List ℕ) → n ≤ mostCount → Filled slot n t words (N.Took (R.Fillers slot n) t)
-no-filler slot n t words h = record { count = n; scan = t; is = refl; items = []; all = tt; many = omega arith; run = refl }
+no-filler : (slot n : ℕ) (t : Scan) (words : List ℕ) → n ≤ mostCount → Filled slot n t words (record { count = n; scan = t })
+no-filler slot n t words h = record { items = []; all = tt; many = omega arith; run = refl }
 
-fillers-say : (slot n : ℕ) (t : Scan) (words : List ℕ) → n ≤ mostCount → unfinished (t .phase) ≡ false → t .slot ≡ slot → Filled slot n t words (fillersFrom slot n t words)
-unfolding fillersFrom fillerOf
-fillers-say slot n t [] h end same = no-filler slot n t [] h
-fillers-say slot n t (word ∷ words) h end same = go (stepAt t word) refl (λ u. fillers-say slot (onward n) u words (onward-le n))
+fill-says : (slot n : ℕ) (t : Scan) (words : List ℕ) → n ≤ mostCount → unfinished t ≡ false → t .slot ≡ slot → Filled slot n t words (fillFrom n t words)
+unfolding fillFrom fillerOf
+fill-says slot n t [] h end same = no-filler slot n t [] h
+fill-says slot n t (word ∷ words) h end same = go (stepAt t word) refl (λ u. fill-says slot (onward n) u words (onward-le n))
   where
-    go : (y : Step) → stepAt t word ≡ y → ((u : Scan) → unfinished (u .phase) ≡ false → u .slot ≡ slot → Filled slot (onward n) u words (fillersFrom slot (onward n) u words)) → Filled slot n t (word ∷ words) (onFiller y slot n t (λ u. fillersFrom slot (onward n) u words))
+    go : (y : Step) → stepAt t word ≡ y → ((u : Scan) → unfinished u ≡ false → u .slot ≡ slot → Filled slot (onward n) u words (fillFrom (onward n) u words)) → Filled slot n t (word ∷ words) (onFiller y n t (λ u. fillFrom (onward n) u words))
     go (S.Went f u) e r =
         let is = filler-taken t word end e in
         let went : stepAt t word ≡ S.Went F.Filler u = e ∙ ap (λ (g : Form). S.Went g u) is in
         let a = filling t word end (accepted t word went) in
         let b = r u (a .tail) (a .slot ∙ same) in
         record {
-          count = b .count;
-          scan = b .scan;
-          is = b .is;
           items = itemFrom F.Filler word ∷ b .items;
           all = (ap (λ (k : ℕ). fillerAt k) (a .own ∙ same), b .all);
-          many = onward-add n (length (b .items)) (b .count) (b .many);
+          many = onward-add n (length (b .items)) _ (b .many);
           run = read-at t word words (judge-by t word went) ∙ ap (then (itemFrom F.Filler word)) (b .run);
         }
     go (S.Refused k p) e r = no-filler slot n t (word ∷ words) h
@@ -326,17 +317,17 @@ one : (s t : Scan) (word : ℕ) (words : List ℕ) (x : Item) (y : Record) → M
 one s t word words x y m stop e = record { items = x ∷ []; made = m; run = read-at s word words e; stop = stop }
 
 time-says : (s t : Scan) (word : ℕ) (words : List ℕ) (r : TriggerTime) → judgeAt s word ≡ J.Took (I.Clock r) t → SaysNext s (word ∷ words) (timeFrom r t words)
-unfolding timeFrom
+unfolding highFrom
 time-says s t word [] r e = one s t word [] (I.Clock r) (R.Time27 r) refl tt e
 time-says s t word (next ∷ words) r e = by-judged (judgeAt t next) refl
   where
     alone : Taken s (word ∷ next ∷ words) (R.Time27 r) t
     alone = one s t word (next ∷ words) (I.Clock r) (R.Time27 r) refl tt e
 
-    by-judged : (j : Judged) → judgeAt t next ≡ j → SaysNext s (word ∷ next ∷ words) (onHigh j r t)
+    by-judged : (j : Judged) → judgeAt t next ≡ j → SaysNext s (word ∷ next ∷ words) (withHigh r t (onHigh j))
     by-judged (J.Took x u) f = by-item x f
       where
-        by-item : (x : Item) → judgeAt t next ≡ J.Took x u → SaysNext s (word ∷ next ∷ words) (withHigh r t x u)
+        by-item : (x : Item) → judgeAt t next ≡ J.Took x u → SaysNext s (word ∷ next ∷ words) (withHigh r t (highOf x u))
         by-item (I.Block x) f = alone
         by-item (I.Parameters x) f = alone
         by-item (I.Trailer x) f = alone
@@ -378,19 +369,18 @@ raw-says s t word words head make m o at e = go (pairsFrom t 0 words) (pairs-say
         }
     go (G.Bad r place) a = ap (λ (x : Reading). x .out) run ∙ a
 
-fillers-make : (s t : Scan) (word : ℕ) (words : List ℕ) → unfinished (s .phase) ≡ false → Accepted s word F.Filler t → judgeAt s word ≡ J.Took (itemFrom F.Filler word) t → SaysNext s (word ∷ words) (fillersFrom ((fillerOf word) .slot) 1 t words)
+fillers-make : (s t : Scan) (word : ℕ) (words : List ℕ) → unfinished s ≡ false → Accepted s word F.Filler t → judgeAt s word ≡ J.Took (itemFrom F.Filler word) t → SaysNext s (word ∷ words) (fillersFrom ((fillerOf word) .slot) t words)
 unfolding fillerOf
 fillers-make s t word words end a e =
     let b = filling s word end a in
     let same : t .slot ≡ (fillerOf word) .slot = b .slot ∙ sym (b .own) in
-    let c = fillers-say ((fillerOf word) .slot) 1 t words (omega arith) (b .tail) same in
-    rw (c .is)
-    (record {
+    let c = fill-says ((fillerOf word) .slot) 1 t words (omega arith) (b .tail) same in
+    record {
       items = itemFrom F.Filler word ∷ c .items;
       made = record { some = omega arith; all = (refl, c .all); many = omega (arith, c .many) };
       run = read-at s word words e ∙ ap (then (itemFrom F.Filler word)) (c .run);
       stop = tt;
-    })
+    }
 
 -- for every scan and all words
 pub next-says : (s : Scan) (words : List ℕ) → SaysNext s words (nextFrom s words)
@@ -417,10 +407,8 @@ next-says s (word ∷ words) = by-step (stepAt s word) refl
     by-form F.Pedestal t e a at = one s t word words (I.Pedestal (pedestalOf word)) (R.Pedestal (pedestalOf word)) refl tt (judge-by s word e)
     by-form F.Empty t e a at = one s t word words (I.Empty (emptyOf word)) (R.Empty (emptyOf word)) refl tt (judge-by s word e)
     by-form F.Filler t e a at = fillers-make s t word words (filler-tail s word (a .form)) a (judge-by s word e)
-    by-form F.No t e a at = absurd (false≢true (sym (a .off .1 .0)))
-    by-form F.End t e a at = absurd (false≢true (sym (a .here)))
 
-    by-step : (y : Step) → stepAt s word ≡ y → SaysNext s (word ∷ words) (onJudged (withItem word y) (s .place) words)
+    by-step : (y : Step) → stepAt s word ≡ y → SaysNext s (word ∷ words) (fromJudged (withItem word y) (s .place) words)
     by-step (S.Went f t) e = let a = accepted s word e in by-form f t e a (place-after s t (itemFrom f word) (a .scan))
     by-step (S.Refused n p) e = ap (λ (x : Reading). x .out) (read-at s word words (judge-by s word e))
     by-step S.Ended e = read-at s word words (judge-by s word e)

@@ -9,16 +9,11 @@ use framing::trigger_time_high::TriggerTimeHigh;
 use measures::integral::PulseIntegral;
 use measures::pedestal::PulsePedestal;
 use measures::time::PulseTime;
+use rawitems::Pairs;
 use raw::pair::SamplePair;
 use raw::pulse_raw::PulseRaw;
 use raw::window::WindowRaw;
-use reader::Scan;
-
-// Where a raw item's pairs stand: the place of the first, and how many.
-pub struct Pairs {
-    pub place: u32,
-    pub count: u32,
-}
+use scan::Scan;
 
 pub enum Record {
     Block(BlockHeader),

@@ -102,3 +102,8 @@ leftAfter s (I.Filler r) = s .left
 
 unfoldable pub after : Scan → Item → Scan
 after s x = record { place = onward (s .place); slot = slotAfter s x; left = leftAfter s x; stage = stageAfter s x }
+
+-- a proof that computes opens this file and what it leans on by one name
+unfoldable pub allOpen : Unit {0}
+unfolding onward after Rattle.limits.specs.Limits.allOpen
+allOpen = tt

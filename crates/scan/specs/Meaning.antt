@@ -117,3 +117,8 @@ unfinishedBy (P.Tail n) = false
 -- "no trailer was read", and no module empty
 abbrev pub unfinished : Scan → Bool
 unfinished s = unfinishedBy (s .stage)
+
+-- a proof that computes opens this file and what it leans on by one name
+unfoldable pub allOpen : Unit {0}
+unfolding meaningAt Rattle.items.specs.Items.allOpen
+allOpen = tt

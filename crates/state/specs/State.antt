@@ -149,3 +149,8 @@ withClosed s words =
       closed = s .closed + 1;
       words = words;
     }
+
+-- a proof that computes opens this file and what it leans on by one name
+unfoldable pub allOpen : Unit {0}
+unfolding blockOk eventOk mostEvent wordsOk noMarks phaseOk stateOk idle blank withBlock withEvent withMark withClosed Rattle.settings.specs.Ranges.allOpen
+allOpen = tt

@@ -49,3 +49,8 @@ cellOf dash n = cond dash Dash (Number n)
 abbrev pub cellsOf : ℕ → List ℕ → List Cell
 cellsOf dashes [] = []
 cellsOf dashes (n ∷ ns) = cellOf (eqb (dashes % 2) 1) n ∷ cellsOf (dashes / 2) ns
+
+-- a proof that computes opens this file and what it leans on by one name
+unfoldable pub allOpen : Unit {0}
+unfolding placesOf decimal cellsText lineText textOf Rattle.ground.specs.Search.allOpen
+allOpen = tt

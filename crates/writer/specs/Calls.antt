@@ -74,3 +74,8 @@ pub record FinishSays (s : State) (words : List ℕ) (r : Finished) (words′ : 
   pub size : r .length ≡ ifAccepted (finishNumber s (length words)) (s .words + length (endItems (s .settings) (s .words))) 0
   pub buffer : words′
       ≡ ifAccepted (finishNumber s (length words)) (splice words (s .words) (wordsOf (endItems (s .settings) (s .words)))) words
+
+-- a proof that computes opens this file and what it leans on by one name
+unfoldable pub allOpen : Unit {0}
+unfolding setUpNumber blockItems openBlockTable openBlockNumber openEventTable openEventNumber postTable postNumber closeTable closeNumber fillersTo endItems finishTable finishNumber Rattle.ground.specs.Splice.allOpen Rattle.ground.specs.Tests.allOpen Rattle.event.specs.Event.allOpen Rattle.writer.specs.State.allOpen
+allOpen = tt

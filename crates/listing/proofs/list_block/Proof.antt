@@ -5,9 +5,10 @@ use mathlib.Core.List.{List}
 use native.Mathlib.Omega.{arith}
 use borrow.Author.Needs.{needs}
 use lib.ListN.{length, drop, getD}
-use Rattle.reader.specs.declared.Scan.{Scan}
+use Rattle.scan.specs.declared.Scan.{Scan}
 use Rattle.reader.specs.declared.Judged.{Judged}
-use Rattle.reader.specs.Reader.{startOf, just, onJudged, readFrom}
+use Rattle.scan.specs.After.{startOf}
+use Rattle.reader.specs.Reader.{just, onJudged, readFrom}
 use Rattle.fields.specs.Bytes.{wordsOfBytes}
 use Rattle.reader.specs.RunLaws.{refused-some}
 use Rattle.listing.specs.BlockLaws.{tail-is, read-at, read-end, Left, left-all, left-is, left-took, left-none}

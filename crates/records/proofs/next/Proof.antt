@@ -5,16 +5,16 @@ use native.Mathlib.Omega.{arith}
 use borrow.Author.Needs.{needs}
 use lib.ListN.{drop, drop-of-length-le}
 use Rattle.reader.specs.declared.Judged.{Judged}
-use Rattle.records.specs.Next.{onJudged, nextFrom, nextAt}
+use Rattle.records.specs.Next.{fromJudged, nextFrom, nextAt}
 use Rattle.records.specs.AtLaws.{next-at}
 use Rattle.records.specs.AnswersLaws.{next-answers}
 use Rattle.records.proofs.next.Statement.{statement}
 use Rattle.records.proofs.next.Tie as tie
 
 -- what is answered of the word that was read
-judged : (c : tie.After-judge) {y : Judged} → c .judge .result ≡ y → let a = c .before .before .before .before .before .args in nextAt (a .words .now) (a .scan) ≡ onJudged y (a .scan .place) (drop (a .scan .place + 1) (a .words .now))
+judged : (c : tie.After-judge-at) {y : Judged} → c .judge-at .result ≡ y → let a = c .before .before .before .before .before .args in nextAt (a .words .now) (a .scan) ≡ fromJudged y (a .scan .place) (drop (a .scan .place + 1) (a .words .now))
 unfolding nextAt
-judged c e = let a = c .before .before .before .before .before .args in next-at (a .words .now) (a .scan .place) (a .scan) (omega arith) (c .judge .ensures .answer) e
+judged c e = let a = c .before .before .before .before .before .args in next-at (a .words .now) (a .scan .place) (a .scan) (omega arith) (c .judge-at .ensures .answer) e
 
 returns : tie.Need-returns
 returns c = next-answers _ _ (c .record-from .ensures ∙ sym (judged (c .before .before .before .before) (c .before .before .judged .given .1)))

@@ -1,45 +1,15 @@
 -- `records::time_from` meets its contract.
-use mathlib.Core.Path.{_≡_, sym, ap, _∙_}
-use native.Mathlib.Omega.{arith}
 use borrow.Author.Needs.{needs}
-use lib.ListN.{drop, drop-of-length-le}
-use Rattle.reader.specs.declared.Judged.{Judged}
-use Rattle.records.specs.Next.{onHigh, timeFrom}
-use Rattle.records.specs.AtLaws.{time-at}
+use Rattle.reader.proofs.Via.{via}
 use Rattle.records.proofs.time_from.Statement.{statement}
 use Rattle.records.proofs.time_from.Tie as tie
 
--- what is answered of the word that follows
-judged : (c : tie.After-judge) {y : Judged} → c .judge .result ≡ y → let a = c .before .before .before .before .args in timeFrom (a .time) (a .scan) (drop (a .from) (a .words .now)) ≡ onHigh y (a .time) (a .scan)
-judged c e = let a = c .before .before .before .before .args in time-at (a .words .now) (a .from) (a .scan) (omega arith) (a .time) (c .judge .ensures .answer) e
-
 returns : tie.Need-returns
-returns c = c .with-high .ensures ∙ sym (judged (c .before .before .before .before) (c .before .before .judged .given .1))
+returns c = rw (via (c .before .before .high-from .ensures) (c .enum-told .given .1))
 
 returns-2 : tie.Need-returns-2
-returns-2 c = sym (judged (c .before .before) (c .enum-told .given .1))
-
-returns-3 : tie.Need-returns-3
-returns-3 c = sym (judged (c .before .before) (c .enum-told2 .given .1))
-
-returns-4 : tie.Need-returns-4
-unfolding timeFrom
-returns-4 c =
-    let a = c .before .before .args in
-    sym (ap (timeFrom (a .time) (a .scan)) (drop-of-length-le (a .words .now) {i = a .from} (omega arith)))
+returns-2 c = rw (via (c .before .before .before .high-from .ensures) (c .before .high .given .1))
 
 pub time-from-spec : {M : Type 1} → statement M
 time-from-spec =
-    tie.close
-    (tie.spec
-    (λ c. search needs)
-    (λ c. search needs)
-    (λ c κs. search needs)
-    (λ c. search needs)
-    (λ c κs. search needs)
-    (λ c. search needs)
-    (λ c. search needs)
-    returns
-    returns-2
-    returns-3
-    returns-4)
+    tie.close (tie.spec (λ c κs. search needs) (λ c. search needs) (λ c. search needs) returns returns-2)

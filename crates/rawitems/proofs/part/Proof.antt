@@ -1,4 +1,4 @@
--- `records::part` meets its contract.
+-- `rawitems::part` meets its contract.
 use Prim.Native.Nat.{ℕ}
 use mathlib.Core.Path.{ap}
 use native.Mathlib.Nat.{add-sub-cancel-left}
@@ -6,9 +6,9 @@ use borrow.Author.Tests.{le-leb, lt-leb}
 use borrow.Author.Needs.{needs}
 use lib.ListN.{take, drop}
 use denote.Ref.{now}
-use Rattle.records.specs.Next.{partOf}
-use Rattle.records.proofs.part.Statement.{statement}
-use Rattle.records.proofs.part.Tie as tie
+use Rattle.rawitems.specs.Pairs.{partOf}
+use Rattle.rawitems.proofs.part.Statement.{statement}
+use Rattle.rawitems.proofs.part.Tie as tie
 
 returns : tie.Need-returns
 unfolding partOf

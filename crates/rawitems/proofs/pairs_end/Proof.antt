@@ -1,9 +1,9 @@
--- `records::raw_item::pairs_end` meets its contract.
+-- `rawitems::pairs_end` meets its contract.
 use borrow.Author.Needs.{needs}
 use Rattle.reader.proofs.Via.{via}
-use Rattle.records.specs.Next.{pairsFrom}
-use Rattle.records.proofs.raw_item.pairs_end.Statement.{statement}
-use Rattle.records.proofs.raw_item.pairs_end.Tie as tie
+use Rattle.rawitems.specs.Pairs.{pairsFrom}
+use Rattle.rawitems.proofs.pairs_end.Statement.{statement}
+use Rattle.rawitems.proofs.pairs_end.Tie as tie
 
 returns : tie.Need-returns
 unfolding pairsFrom

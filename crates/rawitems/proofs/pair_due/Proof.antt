@@ -1,11 +1,9 @@
--- `records::raw_item::pair_due` meets its contract.
+-- `rawitems::pair_due` meets its contract.
 use borrow.Author.Needs.{needs}
-use Rattle.reader.specs.Reader.{mostPairs}
-use Rattle.records.proofs.raw_item.pair_due.Statement.{statement}
-use Rattle.records.proofs.raw_item.pair_due.Tie as tie
+use Rattle.rawitems.proofs.pair_due.Statement.{statement}
+use Rattle.rawitems.proofs.pair_due.Tie as tie
 
 returns-8 : tie.Need-returns-8
-unfolding mostPairs
 returns-8 c = cc
 
 pub pair-due-spec : {M : Type 1} → statement M

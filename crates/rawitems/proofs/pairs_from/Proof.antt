@@ -1,16 +1,16 @@
--- `records::raw_item::pairs_from` meets its contract.
+-- `rawitems::pairs_from` meets its contract.
 use Prim.Native.Nat.{_+_, _-_}
 use mathlib.Core.Path.{_≡_, refl, sym, ap, _∙_}
 use native.Mathlib.Omega.{arith}
 use borrow.Author.Needs.{needs}
 use lib.ListN.{length, drop, drop-of-length-le}
-use Rattle.reader.specs.Reader.{onward}
+use Rattle.scan.specs.After.{onward}
 use Rattle.reader.specs.declared.Step.{Step}
 use Rattle.reader.proofs.Via.{via}
-use Rattle.records.specs.Next.{pairDue, onPair, pairsFrom}
-use Rattle.records.specs.AtLaws.{pairs-at, pairs-stop}
-use Rattle.records.proofs.raw_item.pairs_from.Statement.{statement}
-use Rattle.records.proofs.raw_item.pairs_from.Tie as tie
+use Rattle.rawitems.specs.Pairs.{pairDue, onPair, pairsFrom}
+use Rattle.rawitems.specs.AtLaws.{pairs-at, pairs-stop}
+use Rattle.rawitems.proofs.pairs_from.Statement.{statement}
+use Rattle.rawitems.proofs.pairs_from.Tie as tie
 
 abbrev Inv-loop : tie.InvT-loop
 Inv-loop words from t₀ count₀ at₀ t count at = pairsFrom t₀ count₀ (drop from words) ≡ pairsFrom t count (drop at words)
@@ -19,23 +19,23 @@ abbrev μ-loop : tie.MeasureT-loop
 μ-loop words from t₀ count₀ at₀ t count at = length words - at
 
 -- what is answered of the pair that was read
-paired : (c : tie.After-step Inv-loop μ-loop) {y : Step} → c .step .result ≡ y →
+paired : (c : tie.After-step-at Inv-loop μ-loop) {y : Step} → c .step-at .result ≡ y →
     let l = c .before .before .before .before .before .before .loop in
     let a = c .before .before .before .before .before .before .before .before .args in
     pairsFrom (a .scan) 0 (drop (a .from) (a .words .now)) ≡ onPair y (l .t) (l .count) (λ u. pairsFrom u (onward (l .count)) (drop (l .at + 1) (a .words .now)))
 paired c e =
     let l = c .before .before .before .before .before .before .loop in
-    let due = via (c .before .before .pair-due .ensures ∙ ap (pairDue (l .t .phase)) (c .before .before .before .is-continuation .ensures)) (c .before .if1 .taken) in
-    l .inv ∙ pairs-at (c .before .before .before .before .before .before .before .before .args .words .now) (l .at) (l .t) (omega arith) (l .count) due (c .step .ensures .answer) e
+    let due = via (c .before .before .pair-due .ensures ∙ ap (pairDue (l .t)) (c .before .before .before .is .ensures)) (c .before .if1 .taken) in
+    l .inv ∙ pairs-at (c .before .before .before .before .before .before .before .before .args .words .now) (l .at) (l .t) (omega arith) (l .count) due (c .step-at .ensures .answer) e
 
 loop-holds : tie.Need-loop-holds Inv-loop μ-loop
 loop-holds c = refl
 
 loop-again : tie.Need-loop-again Inv-loop μ-loop
-loop-again c = rw (c .more .ensures) (paired (c .before .before .before .before) (c .before .before .step2 .given .1))
+loop-again c = rw (c .next-place .ensures) (paired (c .before .before .before .before) (c .before .before .step .given .1))
 
 returns : tie.Need-returns Inv-loop μ-loop
-returns c = sym (paired (c .before .before .before) (c .before .step3 .given .1))
+returns c = sym (paired (c .before .before .before) (c .before .step2 .given .1))
 
 returns-2 : tie.Need-returns-2 Inv-loop μ-loop
 returns-2 c = sym (paired (c .before .before) (c .enum-told .given .1))
@@ -43,7 +43,7 @@ returns-2 c = sym (paired (c .before .before) (c .enum-told .given .1))
 returns-3 : tie.Need-returns-3 Inv-loop μ-loop
 returns-3 c =
     let l = c .before .before .before .before .before .loop in
-    sym (l .inv ∙ pairs-stop (c .before .before .before .before .before .before .before .args .words .now) (l .at) (l .t) (omega arith) (l .count) (via (c .before .pair-due .ensures ∙ ap (pairDue (l .t .phase)) (c .before .before .is-continuation .ensures)) (c .if1 .left)))
+    sym (l .inv ∙ pairs-stop (c .before .before .before .before .before .before .before .args .words .now) (l .at) (l .t) (omega arith) (l .count) (via (c .before .pair-due .ensures ∙ ap (pairDue (l .t)) (c .before .before .is .ensures)) (c .if1 .left)))
 
 returns-4 : tie.Need-returns-4 Inv-loop μ-loop
 returns-4 c =
