@@ -22,3 +22,8 @@ unfoldable pub endItems : Settings → ℕ → List Item
 endItems s words =
     I.Trailer (record { slot = s .slot; words = words + 1 })
     ∷ replicate (fillersTo (s .multiple) (words + 1)) (I.Filler (record { slot = s .slot }))
+
+-- a proof that computes opens this file and what it leans on by one name
+unfoldable pub allOpen : Unit {0}
+unfolding blockItems fillersTo endItems Rattle.items.specs.Items.allOpen
+allOpen = tt

@@ -20,7 +20,7 @@ unfoldable pub bytesOfLines : List String → List ℕ
 bytesOfLines [] = []
 bytesOfLines (l ∷ ls) = bytesOfText l ++ (10 ∷ bytesOfLines ls)
 
--- a proof that computes opens this file by one name
+-- a proof that computes opens this file and what it leans on by one name
 unfoldable pub allOpen : Unit {0}
-unfolding bytesOfText bytesOfLines
+unfolding bytesOfText bytesOfLines Rattle.fields.specs.Bytes.allOpen
 allOpen = tt

@@ -25,3 +25,8 @@ pub data Reads (words : List ℕ) : Scan → List Item → ℕ → Type 0 where
   at-end : {s : Scan} (n : ℕ) → nextAt words s ≡ N.End n → Reads words s [] n
   took : {s t : Scan} (r : Record) (items : List Item) {rest : List Item} {n : ℕ} → nextAt words s ≡ N.Took r t → Made (onward (s .place)) r items → OfRaw r (PartRead words items rest)
       → Reads words t rest n → Reads words s (items ++ rest) n
+
+-- a proof that computes opens this file and what it leans on by one name
+unfoldable pub allOpen : Unit {0}
+unfolding Rattle.items.specs.Items.allOpen Rattle.reader.specs.Reader.allOpen Rattle.rawitems.specs.Pairs.allOpen Rattle.records.specs.Next.allOpen
+allOpen = tt

@@ -21,3 +21,8 @@ wordsOfBytes (a ∷ []) = []
 wordsOfBytes (a ∷ b ∷ []) = []
 wordsOfBytes (a ∷ b ∷ c ∷ []) = []
 wordsOfBytes (a ∷ b ∷ c ∷ d ∷ bytes) = wordOfBytes a b c d ∷ wordsOfBytes bytes
+
+-- a proof that computes opens this file and what it leans on by one name
+unfoldable pub allOpen : Unit {0}
+unfolding Rattle.fields.specs.Word.allOpen
+allOpen = tt

@@ -18,3 +18,8 @@ continuation fields = bits 31 31 0 ∷ fields
 
 unfoldable pub isContinuation : ℕ → Bool
 isContinuation word = eqb (read 31 31 word) 0
+
+-- a proof that computes opens this file and what it leans on by one name
+unfoldable pub allOpen : Unit {0}
+unfolding isDefining isContinuation Rattle.fields.specs.Word.allOpen
+allOpen = tt

@@ -122,5 +122,5 @@ findAll w t nsb nsa limit = packed (cond (searchable (length w) nsa limit) (puls
 
 -- a proof that computes opens this file and what it leans on by one name
 unfoldable pub allOpen : Unit {0}
-unfolding ampAt over firstOver overIn starts nextTc tcFrom integral early vmin falls firstFall vmid atMost n1 fineOf edgeTime afterFall timeAt ruleTable pulseAt pulsesFrom noPulse packed searchable findAll Rattle.ground.specs.Search.allOpen Rattle.limits.specs.Limits.allOpen Rattle.samples.specs.Sample.allOpen
+unfolding integral vmin falls firstFall vmid atMost n1 fineOf edgeTime afterFall timeAt pulseAt pulsesFrom noPulse packed searchable findAll Rattle.ground.specs.Search.allOpen Rattle.ground.specs.Tests.allOpen Rattle.limits.specs.Limits.allOpen Rattle.settings.specs.Ranges.allOpen Rattle.search.specs.Search.allOpen
 allOpen = tt

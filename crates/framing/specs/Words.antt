@@ -89,5 +89,5 @@ fillerOf word = record { slot = read 26 22 word }
 
 -- a proof that computes opens this file and what it leans on by one name
 unfoldable pub allOpen : Unit {0}
-unfolding blockHeader blockHeaderOf blockHeaderFixed blockHeaderWithin parameters parametersOf parametersFixed trailer trailerOf eventHeader eventHeaderOf triggerTime triggerTimeOf triggerTimeHigh triggerTimeHighOf triggerTimeHighFixed empty emptyOf filler fillerOf Rattle.fields.specs.Word.allOpen
+unfolding blockHeader blockHeaderOf blockHeaderFixed blockHeaderWithin parameters parametersOf parametersFixed trailer trailerOf eventHeader eventHeaderOf triggerTime triggerTimeOf triggerTimeHigh triggerTimeHighOf triggerTimeHighFixed empty emptyOf filler fillerOf Rattle.fields.specs.Word.allOpen Rattle.fields.specs.Tag.allOpen
 allOpen = tt

@@ -15,3 +15,8 @@ numberOfOut (Broken refusal place) = refusal * 2 ^ 32 + place
 -- "for 16 the place is 0": a length that is no multiple of 4
 unfoldable pub checkNumber : List ℕ → ℕ
 checkNumber bytes = cond (eqb (length bytes % 4) 0) (numberOfOut (checkFrom startOf (wordsOfBytes bytes))) (16 * 2 ^ 32)
+
+-- a proof that computes opens this file and what it leans on by one name
+unfoldable pub allOpen : Unit {0}
+unfolding checkNumber Rattle.fields.specs.Bytes.allOpen Rattle.reader.specs.Reader.allOpen
+allOpen = tt

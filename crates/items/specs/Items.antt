@@ -153,5 +153,5 @@ isOf f word = cond (eqb (bitOf f) 1) (isDefining (typeOf f) word) (isContinuatio
 
 -- a proof that computes opens this file and what it leans on by one name
 unfoldable pub allOpen : Unit {0}
-unfolding wordOf fits Rattle.framing.specs.Words.allOpen Rattle.raw.specs.Words.allOpen Rattle.measures.specs.Words.allOpen
+unfolding wordOf fits Rattle.fields.specs.Word.allOpen Rattle.fields.specs.Tag.allOpen Rattle.framing.specs.Words.allOpen Rattle.raw.specs.Words.allOpen Rattle.measures.specs.Words.allOpen
 allOpen = tt

@@ -35,5 +35,5 @@ mostEvent = 3 + channels * mostChannel
 
 -- a proof that computes opens this file by one name
 unfoldable pub allOpen : Unit {0}
-unfolding pairsOf mostPairs mostRaw mostPulse mostChannel mostEvent
+unfolding mostSamples pairsOf mostPairs mostRaw mostPulse mostChannel mostEvent
 allOpen = tt

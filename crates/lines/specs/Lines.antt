@@ -124,3 +124,8 @@ refusedLine number place = lineOf refusedName (Number number ∷ Number place �
 -- "fill: how many, no line for none"
 abbrev pub fillLines : ℕ → List Line
 fillLines fillers = cond (eqb fillers 0) [] (lineOf fillName (Number fillers ∷ []) ∷ [])
+
+-- a proof that computes opens this file and what it leans on by one name
+unfoldable pub allOpen : Unit {0}
+unfolding Rattle.text.specs.Line.allOpen
+allOpen = tt

@@ -37,5 +37,5 @@ pedestalOf word = record { channel = read 26 23 word; pulse = read 22 21 word; v
 
 -- a proof that computes opens this file and what it leans on by one name
 unfoldable pub allOpen : Unit {0}
-unfolding integral integralOf time timeOf timeFixed pedestal pedestalOf Rattle.fields.specs.Word.allOpen
+unfolding integral integralOf time timeOf timeFixed pedestal pedestalOf Rattle.fields.specs.Word.allOpen Rattle.fields.specs.Tag.allOpen
 allOpen = tt

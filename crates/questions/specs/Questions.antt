@@ -123,5 +123,5 @@ refusalOf s m word = firstOf (refusals s m word)
 
 -- a proof that computes opens this file and what it leans on by one name
 unfoldable pub allOpen : Unit {0}
-unfolding atLimit refusalOf Rattle.ground.specs.Tests.allOpen Rattle.scan.specs.Meaning.allOpen
+unfolding atLimit refusalOf Rattle.ground.specs.Tests.allOpen Rattle.framing.specs.Words.allOpen Rattle.raw.specs.Words.allOpen Rattle.items.specs.Items.allOpen Rattle.scan.specs.Meaning.allOpen
 allOpen = tt

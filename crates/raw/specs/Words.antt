@@ -50,5 +50,5 @@ pairFixed word = eqb (read 30 30 word) 0 && eqb (read 15 14 word) 0
 
 -- a proof that computes opens this file and what it leans on by one name
 unfoldable pub allOpen : Unit {0}
-unfolding window windowOf windowFixed windowWithin pulseRaw pulseRawOf pulseRawFixed pair pairOf pairFixed Rattle.fields.specs.Word.allOpen
+unfolding window windowOf windowFixed windowWithin pulseRaw pulseRawOf pulseRawFixed pair pairOf pairFixed Rattle.fields.specs.Word.allOpen Rattle.fields.specs.Tag.allOpen Rattle.limits.specs.Limits.allOpen
 allOpen = tt

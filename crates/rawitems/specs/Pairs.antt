@@ -44,3 +44,8 @@ pairsFrom t n (word ∷ words) = cond (pairDue t (isContinuation word)) (onPair 
 -- "a second call gives that part of the caller's words (empty if it does not lie in them)"
 unfoldable pub partOf : List ℕ → Pairs → List ℕ
 partOf words p = cond (leb (p .place + p .count) (length words)) (take (p .count) (drop (p .place) words)) []
+
+-- a proof that computes opens this file and what it leans on by one name
+unfoldable pub allOpen : Unit {0}
+unfolding pairsFrom partOf Rattle.fields.specs.Tag.allOpen Rattle.scan.specs.After.allOpen Rattle.reader.specs.Reader.allOpen
+allOpen = tt

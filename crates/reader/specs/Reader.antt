@@ -88,5 +88,5 @@ checkFrom s (word ∷ words) = onStep (stepAt s word) (s .place) (λ t. checkFro
 
 -- a proof that computes opens this file and what it leans on by one name
 unfoldable pub allOpen : Unit {0}
-unfolding stepAt judgeAt endOf endNumber readFrom checkFrom Rattle.scan.specs.After.allOpen Rattle.questions.specs.Questions.allOpen
+unfolding stepAt judgeAt endOf endNumber readFrom checkFrom Rattle.ground.specs.Tests.allOpen Rattle.items.specs.Items.allOpen Rattle.scan.specs.Meaning.allOpen Rattle.scan.specs.After.allOpen Rattle.questions.specs.Questions.allOpen
 allOpen = tt

@@ -207,3 +207,8 @@ OfRaw (R.Pedestal r) P = Unit {0}
 OfRaw (R.Trailer r) P = Unit {0}
 OfRaw (R.Fillers slot n) P = Unit {0}
 OfRaw (R.Empty r) P = Unit {0}
+
+-- a proof that computes opens this file and what it leans on by one name
+unfoldable pub allOpen : Unit {0}
+unfolding highFrom fillFrom nextFrom nextAt Rattle.scan.specs.After.allOpen Rattle.reader.specs.Reader.allOpen Rattle.rawitems.specs.Pairs.allOpen
+allOpen = tt

@@ -96,3 +96,8 @@ finishTable s room =
 
 unfoldable pub finishNumber : State → ℕ → ℕ
 finishNumber s room = firstOf (finishTable s room)
+
+-- a proof that computes opens this file and what it leans on by one name
+unfoldable pub allOpen : Unit {0}
+unfolding setUpNumber openBlockTable openBlockNumber openEventTable openEventNumber postTable postNumber closeTable closeNumber beforeRoom finishTable finishNumber Rattle.ground.specs.Tests.allOpen Rattle.settings.specs.Ranges.allOpen Rattle.samples.specs.Sample.allOpen Rattle.block.specs.Block.allOpen Rattle.event.specs.Event.allOpen Rattle.state.specs.State.allOpen
+allOpen = tt

@@ -120,5 +120,5 @@ unfinished s = unfinishedBy (s .stage)
 
 -- a proof that computes opens this file and what it leans on by one name
 unfoldable pub allOpen : Unit {0}
-unfolding meaningAt Rattle.items.specs.Items.allOpen
+unfolding meaningAt Rattle.fields.specs.Word.allOpen Rattle.items.specs.Items.allOpen
 allOpen = tt

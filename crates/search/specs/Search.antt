@@ -43,3 +43,8 @@ tcFrom w t (suc s) = nextTc w t (suc s)
 -- "1. NW < 4, or one of the first four samples is over"
 unfoldable pub early : List ℕ → ℕ → Bool
 early w t = ltb (length w) 4 || overIn w t 4
+
+-- a proof that computes opens this file and what it leans on by one name
+unfoldable pub allOpen : Unit {0}
+unfolding ampAt over firstOver overIn starts nextTc tcFrom early Rattle.ground.specs.Search.allOpen Rattle.samples.specs.Sample.allOpen
+allOpen = tt

@@ -152,5 +152,5 @@ withClosed s words =
 
 -- a proof that computes opens this file and what it leans on by one name
 unfoldable pub allOpen : Unit {0}
-unfolding blockOk eventOk mostEvent wordsOk noMarks phaseOk stateOk idle blank withBlock withEvent withMark withClosed Rattle.settings.specs.Ranges.allOpen
+unfolding blockOk eventOk wordsOk noMarks phaseOk stateOk idle blank withBlock withEvent withMark withClosed Rattle.ground.specs.Tests.allOpen Rattle.limits.specs.Limits.allOpen Rattle.settings.specs.Ranges.allOpen
 allOpen = tt

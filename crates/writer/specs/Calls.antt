@@ -77,5 +77,5 @@ pub record FinishSays (s : State) (words : List ℕ) (r : Finished) (words′ : 
 
 -- a proof that computes opens this file and what it leans on by one name
 unfoldable pub allOpen : Unit {0}
-unfolding setUpNumber blockItems openBlockTable openBlockNumber openEventTable openEventNumber postTable postNumber closeTable closeNumber fillersTo endItems finishTable finishNumber Rattle.ground.specs.Splice.allOpen Rattle.ground.specs.Tests.allOpen Rattle.event.specs.Event.allOpen Rattle.writer.specs.State.allOpen
+unfolding Rattle.items.specs.Items.allOpen Rattle.block.specs.Block.allOpen Rattle.state.specs.State.allOpen Rattle.refusing.specs.Tables.allOpen
 allOpen = tt
