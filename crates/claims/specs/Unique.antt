@@ -511,8 +511,8 @@ pub put-line-unique : Unique text.put_line.ended text.put_line.Reads.Learnt
 put-line-unique κs a r s u v p q = by-page (u .1) p q
 
 -- lines
-pub put-block-unique : Unique lines.put_block.ended lines.put_block.Reads.Learnt
-put-block-unique κs a r s u v p q = by-page (u .1) p q
+pub lines-put-block-unique : Unique lines.put_block.ended lines.put_block.Reads.Learnt
+lines-put-block-unique κs a r s u v p q = by-page (u .1) p q
 
 pub put-setup-unique : Unique lines.put_setup.ended lines.put_setup.Reads.Learnt
 put-setup-unique κs a r s u v p q = by-page (u .1) p q
@@ -541,8 +541,8 @@ put-time-unique κs a r s u v p q = by-page (u .1) p q
 pub put-ped-unique : Unique lines.put_ped.ended lines.put_ped.Reads.Learnt
 put-ped-unique κs a r s u v p q = by-page (u .1) p q
 
-pub put-end-unique : Unique lines.put_end.ended lines.put_end.Reads.Learnt
-put-end-unique κs a r s u v p q = by-page (u .1) p q
+pub lines-put-end-unique : Unique lines.put_end.ended lines.put_end.Reads.Learnt
+lines-put-end-unique κs a r s u v p q = by-page (u .1) p q
 
 pub put-empty-unique : Unique lines.put_empty.ended lines.put_empty.Reads.Learnt
 put-empty-unique κs a r s u v p q = by-page (u .1) p q
