@@ -16,9 +16,10 @@ use Rattle.search.specs.Search.{anyOver}
 use Rattle.finder.specs.Find.{searchable}
 use Rattle.finder.specs.FindLaws.{searched}
 use Rattle.finder.specs.RangeLaws.{PulseFits, EachFits, pulses-fit, pulses-count}
-use Rattle.channel.specs.declared.Parts.{Parts}
+use Rattle.pulse.specs.declared.Parts.{Parts}
+use Rattle.pulse.specs.Pulse.{oneIf, pulseLength}
 use Rattle.channel.specs.Channel.{modeTable, rowOfMode, partsOf, commonOf, pulsesOf}
-use Rattle.channel.specs.Inner.{listed, InWindow, oneIf, pulseLength, pulsesLength, channelLength}
+use Rattle.channel.specs.Inner.{listed, InWindow, pulsesLength, channelLength}
 use Rattle.channel.specs.InnerLaws.{length-listed}
 
 -- the most that a mode writes of a pulse, and of a channel with three

@@ -1,47 +1,25 @@
 -- What one channel writes: document 01, "The words", as lists of records. Assumes nothing.
-use Prim.Native.Nat.{ℕ, _+_, _-_, min}
+use Prim.Native.Nat.{ℕ, _+_}
 use mathlib.Core.Bool.{Bool, true, false, cond, _&&_}
 use mathlib.Core.List.{List, [], _∷_, _++_}
-use lib.ListN.{length, take, drop}
-use lib.Dec.{eqb, ltb}
+use lib.ListN.{length}
+use lib.Dec.{eqb}
 use Rattle.settings.specs.declared.Settings.{Settings}
 use Rattle.finder.specs.declared.Pulse.{Pulse}
 use Rattle.search.specs.Search.{anyOver}
 use Rattle.finder.specs.Find.{pulsesFrom}
 use Rattle.pairs.specs.Pairs.{pairItems}
-use Rattle.items.specs.Items.{wordsOf, itemIf}
+use Rattle.items.specs.Items.{wordsOf}
 use Rattle.items.specs.declared.Item.{Item}
 use Rattle.items.specs.declared.Item.the-variants as I
-use Rattle.channel.specs.declared.Parts.{Parts}
+use Rattle.pulse.specs.declared.Parts.{Parts}
+use Rattle.pulse.specs.Pulse.{pulseItems}
 
 -- ---- samples
 
 -- type 4: the channel's whole window
 unfoldable pub windowItems : ℕ → List ℕ → List Item
 windowItems c w = I.Window (record { channel = c; width = length w }) ∷ pairItems w
-
--- the samples of a pulse's data set
-unfoldable pub setOf : List ℕ → Pulse → List ℕ
-setOf w p = take (p .last + 1 - p .first) (drop (p .first - 1) w)
-
--- type 6: a pulse's data set
-unfoldable pub rawItems : ℕ → List ℕ → ℕ → Pulse → List Item
-rawItems c w i p = I.Raw (record { channel = c; pulse = i; tc = p .tc }) ∷ pairItems (setOf w p)
-
--- ---- what is measured of a pulse
-
--- "Written: min(sum, 524,287), with quality 1 if the sum was greater, else 0. All other quality fields are 0."
-unfoldable pub integralItem : ℕ → ℕ → Pulse → Item
-integralItem c i p = I.Integral (record { channel = c; pulse = i; quality = cond (ltb 524287 (p .sum)) 1 0; sum = min (p .sum) 524287 })
-
--- the high-resolution time, or "TC and fine 0"
-unfoldable pub timeItem : Bool → ℕ → ℕ → Pulse → Item
-timeItem high c i p =
-    I.Time (record { channel = c; pulse = i; quality = 0; coarse = cond high (p .time .coarse) (p .tc); fine = cond high (p .time .fine) 0 })
-
--- "VMIN is written as min(VMIN, 511)."
-unfoldable pub pedestalItem : ℕ → ℕ → Pulse → Item
-pedestalItem c i p = I.Pedestal (record { channel = c; pulse = i; vmin = min (p .time .vmin) 511; vpeak = p .time .vpeak })
 
 -- ---- what a mode writes
 
@@ -68,14 +46,6 @@ rowOfMode (r ∷ rs) mode = cond (eqb mode (r .0)) (r .1) (rowOfMode rs mode)
 
 unfoldable pub partsOf : ℕ → Parts
 partsOf mode = rowOfMode modeTable mode
-
--- one pulse, the i-th
-unfoldable pub pulseItems : Parts → ℕ → List ℕ → ℕ → Pulse → List Item
-pulseItems m c w i p =
-    cond (m .raw) (rawItems c w i p) []
-    ++ (itemIf (m .integral) (integralItem c i p)
-    ++ (itemIf (m .time) (timeItem (m .high) c i p)
-    ++ itemIf (m .pedestal) (pedestalItem c i p)))
 
 -- "Pulses in order", numbered from i
 unfoldable pub pulsesItems : Parts → ℕ → List ℕ → ℕ → List Pulse → List Item

@@ -1,5 +1,5 @@
 -- What private functions of the channel writer say and ask; no public contract cites it. Assumes nothing.
-use Prim.Native.Nat.{ℕ, _+_, _-_, _≤_}
+use Prim.Native.Nat.{ℕ, _+_, _≤_}
 use mathlib.Core.Bool.{Bool, cond, _&&_, _||_}
 use mathlib.Core.List.{List, [], _∷_}
 use lib.ListN.{length, take}
@@ -8,7 +8,8 @@ use Rattle.finder.specs.declared.Pulse.{Pulse}
 use Rattle.finder.specs.declared.Pulses.{Pulses}
 use Rattle.search.specs.Search.{anyOver}
 use Rattle.finder.specs.RangeLaws.{EachFits}
-use Rattle.channel.specs.declared.Parts.{Parts}
+use Rattle.pulse.specs.declared.Parts.{Parts}
+use Rattle.pulse.specs.Pulse.{pulseLength}
 use Rattle.channel.specs.Channel.{Common, partsOf, pulsesOf}
 
 -- the pulses that stand in the three places
@@ -30,12 +31,6 @@ abbrev pub limitFor : Parts → ℕ → ℕ
 limitFor m limit = cond (ofPulses m) limit 0
 
 -- ---- how many words, without the words
-
-abbrev pub oneIf : Bool → ℕ
-oneIf on = cond on 1 0
-
-unfoldable pub pulseLength : Parts → Pulse → ℕ
-pulseLength m p = cond (m .raw) (1 + pairsOf (p .last + 1 - p .first)) 0 + (oneIf (m .integral) + (oneIf (m .time) + oneIf (m .pedestal)))
 
 unfoldable pub pulsesLength : Parts → List Pulse → ℕ
 pulsesLength m [] = 0

@@ -5,7 +5,7 @@ use mathlib.Core.Bool.{Bool, true, false, cond, _&&_}
 use mathlib.Core.List.{List, [], _∷_, _++_}
 use native.Mathlib.Omega.{arith}
 use native.Mathlib.Numerals.{add-one}
-use lib.ListN.{length, getD, take, drop, replicate, drop-of-length-le, length-append, length-take, length-drop}
+use lib.ListN.{length, getD, drop, replicate, drop-of-length-le, length-append}
 use lib.Seq.{drop-cons, getD-take, length-take-le, sets-eq}
 use Rattle.ground.specs.TestsLaws.{or-none}
 use Rattle.limits.specs.Limits.{mostSamples, pairsOf}
@@ -16,11 +16,13 @@ use Rattle.search.specs.Search.{anyOver}
 use Rattle.finder.specs.Find.{pulsesFrom, noPulse, packed, searchable, findAll}
 use Rattle.finder.specs.FindLaws.{find-all, Searched, searched, can-search}
 use Rattle.finder.specs.RangeLaws.{PulseFits, EachFits, fits-at, pulses-fit, pulses-count, packed-back}
-use Rattle.channel.specs.declared.Parts.{Parts}
+use Rattle.pulse.specs.declared.Parts.{Parts}
+use Rattle.pulse.specs.Pulse.{pulseItems, pulseLength, fitsIn}
+use Rattle.pulse.specs.PulseLaws.{length-if, length-pulse, fits-in}
 use Rattle.pairs.specs.PairsLaws.{length-pairs}
 use Rattle.items.specs.declared.Item.{Item}
-use Rattle.channel.specs.Channel.{windowItems, setOf, rawItems, integralItem, timeItem, pedestalItem, partsOf, pulseItems, pulsesItems, Common, commonOf, pulsesOf, channelItems}
-use Rattle.channel.specs.Inner.{listed, InWindow, ofPulses, limitFor, pulseLength, pulsesLength, channelLength}
+use Rattle.channel.specs.Channel.{windowItems, partsOf, pulsesItems, Common, commonOf, pulsesOf, channelItems}
+use Rattle.channel.specs.Inner.{listed, InWindow, ofPulses, limitFor, pulsesLength, channelLength}
 
 -- ---- the three places
 
@@ -57,53 +59,21 @@ place-fits n found i d r h =
     let l : i < length (listed found) = rw (length-listed found (r .stored)) h in
     rw (listed-at found i d h) at (fits-at n (listed found) i d (r .each) l)
 
--- the ends of its data set
-pub place-set : (n : ℕ) (found : Pulses) (i : ℕ) (d : Pulse) → InWindow n found → n ≤ mostSamples → i < found .count
-    → (getD (found .pulses) i d .last ≤ mostSamples) × (1 ≤ getD (found .pulses) i d .first) × (getD (found .pulses) i d .first ≤ getD (found .pulses) i d .last)
-place-set n found i d r l h =
-    let p = place-fits n found i d r h in
-    (omega (arith, p .last .1), p .first .0, omega (arith, p .first .1, p .last .0))
+pub place-in : (n : ℕ) (found : Pulses) (i : ℕ) (d : Pulse) → InWindow n found → n ≤ mostSamples → i < found .count → fitsIn n (getD (found .pulses) i d) ≡ true
+place-in n found i d r l h = fits-in n _ (place-fits n found i d r h) l
 
 -- ---- how many words
-
-pub length-set : (w : List ℕ) (p : Pulse) → PulseFits (length w) p → length (setOf w p) ≡ p .last + 1 - p .first
-unfolding setOf
-length-set w p o = simp (length-take, length-drop) (omega (arith, o .first .0, o .last .1))
-
--- the part of the window from the set's first sample to its last
-pub part-set : (w : List ℕ) (p : Pulse) → 1 ≤ p .first → take (p .last - (p .first - 1)) (drop (p .first - 1) w) ≡ setOf w p
-unfolding setOf
-part-set w p h =
-    let e : p .last - (p .first - 1) ≡ p .last + 1 - p .first = omega arith in
-    rw e
-
-length-if : (on : Bool) (xs : List Item) (n : ℕ) → length xs ≡ n → length (cond on xs []) ≡ cond on n 0
-length-if true xs n e = e
-length-if false xs n e = refl
 
 pub length-window : (c : ℕ) (w : List ℕ) → length (windowItems c w) ≡ 1 + pairsOf (length w)
 unfolding windowItems
 length-window c w = omega (arith, length-pairs w)
-
-pub length-raw : (c : ℕ) (w : List ℕ) (i : ℕ) (p : Pulse) → PulseFits (length w) p → length (rawItems c w i p) ≡ 1 + pairsOf (p .last + 1 - p .first)
-unfolding rawItems
-length-raw c w i p o = omega (arith, length-pairs (setOf w p), ap pairsOf (length-set w p o))
-
-pub length-pulse : (m : Parts) (c : ℕ) (w : List ℕ) (i : ℕ) (p : Pulse) → PulseFits (length w) p → length (pulseItems m c w i p) ≡ pulseLength m p
-unfolding pulseItems pulseLength
-length-pulse m c w i p o =
-    let a = length-if (m .raw) (rawItems c w i p) (1 + pairsOf (p .last + 1 - p .first)) (length-raw c w i p o) in
-    let b = length-if (m .integral) (integralItem c i p ∷ []) 1 refl in
-    let d = length-if (m .time) (timeItem (m .high) c i p ∷ []) 1 refl in
-    let e = length-if (m .pedestal) (pedestalItem c i p ∷ []) 1 refl in
-    rw (length-append, length-append, length-append, a, b, d, e)
 
 pub length-pulses : (m : Parts) (c : ℕ) (w : List ℕ) (i : ℕ) (l : List Pulse) → EachFits (length w) l → length (pulsesItems m c w i l) ≡ pulsesLength m l
 unfolding pulsesItems pulsesLength
 length-pulses m c w i [] o = refl
 length-pulses m c w i (p ∷ l) o =
     length-append (pulseItems m c w i p) (pulsesItems m c w (i + 1) l)
-    ∙ ap₂ (λ (a b : ℕ). a + b) (length-pulse m c w i p (o .0)) (length-pulses m c w (i + 1) l (o .1))
+    ∙ ap₂ (λ (a b : ℕ). a + b) (length-pulse m c w i p (o .0 .first .0) (o .0 .last .1)) (length-pulses m c w (i + 1) l (o .1))
 
 pub length-channel : (s : Common) (t c : ℕ) (w : List ℕ) → 1 ≤ s .nsa → length (channelItems s t c w) ≡ channelLength s t w
 unfolding channelItems channelLength

@@ -1,13 +1,10 @@
 // The words of one channel, put into a lent buffer.
 mod count;
-mod measure;
 
-use finder::Pulse;
 use finder::Pulses;
 use items::Item;
-use items::put::put_if;
 use items::put::room_short;
-use raw::pulse_raw::PulseRaw;
+use pulse::Parts;
 use raw::window::WindowRaw;
 use settings::Settings;
 ghost use mathlib.Core.Path.{_≡_};
@@ -20,20 +17,9 @@ ghost use Rattle.ground.specs.Splice.{Written, WrittenIf};
 ghost use Rattle.limits.specs.Limits.{mostSamples};
 ghost use Rattle.search.specs.Search.{anyOver};
 ghost use Rattle.finder.specs.Find.{searchable, findAll};
-ghost use Rattle.finder.specs.RangeLaws.{PulseFits};
 ghost use Rattle.items.specs.Items.{wordOf, wordsOf};
-ghost use Rattle.channel.specs.Channel.{windowItems, rawItems, partsOf, pulseItems, pulsesItems, commonOf, channelItems, channelWords};
+ghost use Rattle.channel.specs.Channel.{windowItems, partsOf, pulsesItems, commonOf, channelItems, channelWords};
 ghost use Rattle.channel.specs.Inner.{listed, InWindow, limitFor, channelLength};
-
-// What a mode writes: the window, and of each pulse its samples, integral, time (high-resolution or TC) and pedestal.
-pub struct Parts {
-    pub window: bool,
-    pub raw: bool,
-    pub integral: bool,
-    pub time: bool,
-    pub high: bool,
-    pub pedestal: bool,
-}
 
 fn writing(window: bool, raw: bool, integral: bool, time: bool, high: bool, pedestal: bool) -> Parts
     ensures { λ r. ⌜ r ≡ record { window = window; raw = raw; integral = integral; time = time; high = high; pedestal = pedestal } ⌝ }
@@ -63,70 +49,6 @@ fn parts_of(mode: u32) -> Parts
     }
 }
 
-// A pulse's data set where the mode writes it.
-fn put_raw_if(
-    words: &mut [u32],
-    at: usize,
-    on: bool,
-    channel: u32,
-    row: &[u16],
-    i: u32,
-    pulse: Pulse,
-) -> usize
-    requires { ⌜ PulseFits (length (now row)) pulse × (length (now row) ≤ mostSamples) ⌝ }
-    requires { ⌜ at + length (cond on (rawItems channel (now row) i pulse) []) ≤ length (now words) ⌝ }
-    ensures { λ r. ⌜ Written (now (words .entry)) at (wordsOf (cond on (rawItems channel (now (row .entry)) i pulse) [])) r (now (words .exit)) ⌝ }
-{
-    if on {
-        let tc = pulse.tc as u32;
-        let raw = PulseRaw {
-            channel,
-            pulse: i,
-            tc,
-        };
-        let first = pulse.first - 1;
-        let last = pulse.last;
-        pairs::put_run(words, at, Item::Raw(raw), &row[first..last])
-    } else {
-        at
-    }
-}
-
-// What the mode writes of one pulse.
-fn put_pulse(
-    words: &mut [u32],
-    at: usize,
-    parts: Parts,
-    channel: u32,
-    row: &[u16],
-    i: u32,
-    pulse: Pulse,
-) -> usize
-    requires { ⌜ PulseFits (length (now row)) pulse × (length (now row) ≤ mostSamples) ⌝ }
-    requires { ⌜ at + length (pulseItems parts channel (now row) i pulse) ≤ length (now words) ⌝ }
-    ensures { λ r. ⌜ Written (now (words .entry)) at (wordsOf (pulseItems parts channel (now (row .entry)) i pulse)) r (now (words .exit)) ⌝ }
-{
-    let samples = put_raw_if(words, at, parts.raw, channel, row, i, pulse);
-    let integral = put_if(
-        words,
-        samples,
-        parts.integral,
-        measure::integral_of(channel, i, pulse),
-    );
-    let time = put_if(
-        words,
-        integral,
-        parts.time,
-        measure::time_of(parts.high, channel, i, pulse),
-    );
-    put_if(
-        words,
-        time,
-        parts.pedestal,
-        measure::pedestal_of(channel, i, pulse),
-    )
-}
-
 // The pulses in order.
 fn put_pulses(
     words: &mut [u32],
@@ -144,7 +66,7 @@ fn put_pulses(
     let mut i = 0;
     while i < found.count {
         let pulse = found.pulses[i];
-        next = put_pulse(words, next, parts, channel, row, i as u32, pulse);
+        next = pulse::put_pulse(words, next, parts, channel, row, i as u32, pulse);
         i += 1;
     }
     next
@@ -221,7 +143,7 @@ fn count_found(settings: Settings, threshold: u32, row: &[u16]) -> usize
     let parts = parts_of(settings.mode);
     let wanted = window_for(parts, threshold, row);
     let found = pulses_for(parts, settings, threshold, row);
-    count::window_length(wanted, row.len()) + count::pulses_length(parts, found, row.len())
+    pairs::run_length_if(wanted, row.len()) + count::pulses_length(parts, found, row.len())
 }
 
 // Fewer words are left than the channel takes. Where there is room for the longest channel, nothing is counted.

@@ -1,13 +1,14 @@
 -- Samples taken two by two, and how many pairs they are. Assumes nothing.
 use Prim.Native.Nat.{ℕ, suc, _+_, _/_, _≤_, _<_}
 use mathlib.Core.Path.{_≡_, refl, sym, _∙_}
+use mathlib.Core.Bool.{Bool, true, false, cond}
 use mathlib.Core.List.{List, [], _∷_}
 use native.Mathlib.Omega.{arith}
 use native.Mathlib.Numerals.{add-one}
 use lib.ListN.{length, drop, getD, drop-of-length-le}
 use lib.Seq.{drop-cons}
-use Rattle.limits.specs.Limits.{pairsOf}
-use Rattle.limits.specs.LimitsLaws.{pairs-is}
+use Rattle.limits.specs.Limits.{mostSamples, pairsOf, mostRaw}
+use Rattle.limits.specs.LimitsLaws.{pairs-is, pairs-most, raw-is}
 use Rattle.items.specs.declared.Item.the-variants as I
 use Rattle.pairs.specs.Pairs.{pairItems}
 
@@ -40,3 +41,8 @@ length-pairs w = halves w ∙ sym (pairs-is (length w))
     halves [] = refl
     halves (x ∷ []) = refl
     halves (x ∷ y ∷ r) = omega (arith, halves r)
+
+-- no run is longer than the longest
+pub run-most : (on : Bool) (n : ℕ) → n ≤ mostSamples → cond on (1 + pairsOf n) 0 ≤ mostRaw
+run-most true n h = omega (arith, raw-is, pairs-most n h)
+run-most false n h = omega arith

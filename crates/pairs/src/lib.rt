@@ -2,7 +2,7 @@
 use items::Item;
 use raw::pair::SamplePair;
 ghost use mathlib.Core.Path.{_≡_};
-ghost use mathlib.Core.Bool.{true};
+ghost use mathlib.Core.Bool.{true, cond};
 ghost use mathlib.Core.List.{[], _∷_};
 ghost use Prim.Native.Nat.{_+_, _<_, _≤_};
 ghost use lib.ListN.{length};
@@ -61,10 +61,17 @@ fn put_pairs(words: &mut [u32], at: usize, samples: &[u16]) -> usize
 }
 
 // How many words a header and the pairs of so many samples are. No sum can wrap.
-pub fn run_length(samples: usize) -> usize
+fn run_length(samples: usize) -> usize
     ensures { λ r. ⌜ r ≡ 1 + pairsOf samples ⌝ }
 {
     1 + (samples / 2 + samples % 2)
+}
+
+// The same where they are wanted.
+pub fn run_length_if(on: bool, samples: usize) -> usize
+    ensures { λ r. ⌜ r ≡ cond on (1 + pairsOf samples) 0 ⌝ }
+{
+    if on { run_length(samples) } else { 0 }
 }
 
 // A header, and the samples behind it.

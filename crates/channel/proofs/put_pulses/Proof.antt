@@ -6,8 +6,7 @@ use Rattle.ground.specs.WritingLaws.{Left, left-all}
 use Rattle.items.specs.Items.{wordsOf}
 use Rattle.channel.specs.Channel.{pulsesItems}
 use Rattle.channel.specs.Inner.{listed}
-use Rattle.channel.specs.InnerLaws.{place-fits}
-use Rattle.channel.specs.PulsesLaws.{pulse-room, pulse-less, pulse-none}
+use Rattle.channel.specs.PulsesLaws.{pulse-less, pulse-none}
 use Rattle.channel.proofs.put_pulses.Statement.{statement}
 use Rattle.channel.proofs.put_pulses.Tie as tie
 
@@ -21,20 +20,11 @@ abbrev μ-loop : tie.MeasureT-loop
 loop-holds : tie.Need-loop-holds Inv-loop μ-loop
 loop-holds c = (omega arith, left-all _ _ _)
 
-put-pulse-requires : tie.Need-put-pulse-requires Inv-loop μ-loop
-put-pulse-requires c κs =
-    let l = c .before .before .before in
-    let s = l .before .before .before in
-    let pre = s .pre in (
-      (place-fits _ _ _ _ (pre .0 .0) (c .before .before .loop-test .taken), pre .0 .1),
-      pulse-room _ _ _ _ _ _ (pre .0 .0 .stored) (pre .1) (l .loop .words) (l .loop .next) (l .loop .i) _ (c .before .before .loop-test .taken) (l .loop .inv .1),
-    )
-
 loop-again : tie.Need-loop-again Inv-loop μ-loop
 loop-again c =
     let l = c .before .before .before .before .before .before in
     let pre = l .before .before .before .pre in
-    (omega arith, pulse-less _ _ _ _ _ _ (pre .0 .0 .stored) (pre .1) (l .loop .words) (l .loop .next) (l .loop .i) _ _ _ (c .before .before .put-pulse .ensures) (c .before .before .before .before .before .loop-test .taken) (l .loop .inv .1))
+    (omega arith, pulse-less _ _ _ _ _ _ (pre .0 .0) (pre .0 .1) (pre .1) (l .loop .words) (l .loop .next) (l .loop .i) _ _ _ (c .before .before .put-pulse .ensures) (c .before .before .before .before .before .loop-test .taken) (l .loop .inv .1))
 
 same-length : tie.Need-same-length Inv-loop μ-loop
 same-length c = c .before .loop .inv .1 .size
@@ -43,7 +33,7 @@ returns : tie.Need-returns Inv-loop μ-loop
 returns c =
     let l = c .before in
     let pre = l .before .before .before .pre in
-    pulse-none _ _ _ _ _ _ (pre .0 .0 .stored) (pre .1) (l .loop .words) (l .loop .next) (l .loop .i) (c .loop-test .left) (l .loop .inv .1)
+    pulse-none _ _ _ _ _ _ (pre .0 .0) (pre .0 .1) (pre .1) (l .loop .words) (l .loop .next) (l .loop .i) (c .loop-test .left) (l .loop .inv .1)
 
 pub put-pulses-spec : {M : Type 1} → statement M
 put-pulses-spec =
@@ -55,7 +45,7 @@ put-pulses-spec =
     (λ c. omega arith)
     (λ c. omega arith)
     (λ c. omega arith)
-    put-pulse-requires
+    (λ c κs. tt)
     (λ c. omega arith)
     (λ c. omega arith)
     loop-again

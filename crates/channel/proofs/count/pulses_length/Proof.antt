@@ -6,7 +6,7 @@ use native.Mathlib.Nat.{zero-add}
 use lib.ListN.{drop}
 use Rattle.limits.specs.LimitsLaws.{most-pulse}
 use Rattle.channel.specs.Inner.{listed, pulsesLength}
-use Rattle.channel.specs.InnerLaws.{place-set, count-turn, count-end}
+use Rattle.channel.specs.InnerLaws.{place-in, count-turn, count-end}
 use Rattle.channel.specs.BoundLaws.{found-most}
 use Rattle.channel.proofs.count.pulses_length.Statement.{statement}
 use Rattle.channel.proofs.count.pulses_length.Tie as tie
@@ -26,11 +26,6 @@ mul-pulse c = omega arith
 element-copy-out-pulse : tie.Need-element-copy-out-pulse Inv-loop μ-loop
 element-copy-out-pulse c = omega arith
 
-pulse-length-requires : tie.Need-pulse-length-requires Inv-loop μ-loop
-pulse-length-requires c κs =
-    let pre = c .before .before .before .pre in
-    place-set _ _ _ _ (pre .0) (pre .1) (omega arith)
-
 add-n : tie.Need-add-n Inv-loop μ-loop
 add-n c =
     let h = c .before .before .before in
@@ -39,7 +34,7 @@ add-n c =
       arith,
       most-pulse,
       found-most (h .before .args .parts) _ _ (pre .1) (pre .0),
-      count-turn _ _ (pre .0 .stored) (h .loop .i) (h .loop .n) _ _ _ (c .pulse-length .ensures .0) (c .before .before .loop-test .taken) (h .loop .inv .1),
+      count-turn _ _ (pre .0 .stored) (h .loop .i) (h .loop .n) _ _ _ (rw (place-in _ _ _ _ (pre .0) (pre .1) (c .before .before .loop-test .taken)) at (c .pulse-length .ensures)) (c .before .before .loop-test .taken) (h .loop .inv .1),
     )
 
 add-i : tie.Need-add-i Inv-loop μ-loop
@@ -51,7 +46,8 @@ loop-less c = omega arith
 loop-again : tie.Need-loop-again Inv-loop μ-loop
 loop-again c =
     let h = c .before .before .before in
-    (omega arith, count-turn _ _ (h .before .pre .0 .stored) (h .loop .i) (h .loop .n) _ _ _ (c .pulse-length .ensures .0) (c .before .before .loop-test .taken) (h .loop .inv .1))
+    let pre = h .before .pre in
+    (omega arith, count-turn _ _ (h .before .pre .0 .stored) (h .loop .i) (h .loop .n) _ _ _ (rw (place-in _ _ _ _ (pre .0) (pre .1) (c .before .before .loop-test .taken)) at (c .pulse-length .ensures)) (c .before .before .loop-test .taken) (h .loop .inv .1))
 
 returns : tie.Need-returns Inv-loop μ-loop
 returns c =
@@ -69,7 +65,7 @@ pulses-length-spec =
     loop-holds
     mul-pulse
     element-copy-out-pulse
-    pulse-length-requires
+    (λ c κs. tt)
     add-n
     add-i
     loop-less

@@ -1,4 +1,4 @@
--- `channel::put_pulse` meets its contract: its records one after the other, each where the mode writes it.
+-- `pulse::put_fitting` meets its contract: its records one after the other, each where the mode writes it.
 use mathlib.Core.Path.{refl}
 use mathlib.Core.List.{List, [], _++_}
 use mathlib.Core.Bool.{cond}
@@ -10,9 +10,9 @@ use Rattle.ground.specs.Splice.{Written}
 use Rattle.items.specs.Items.{wordsOf, itemIf}
 use Rattle.items.specs.declared.Item.{Item}
 use Rattle.items.specs.ItemsLaws.{first-room, then-room, put-written, then-written}
-use Rattle.channel.specs.Channel.{rawItems, integralItem, timeItem, pedestalItem, pulseItems}
-use Rattle.channel.proofs.put_pulse.Statement.{statement}
-use Rattle.channel.proofs.put_pulse.Tie as tie
+use Rattle.pulse.specs.Pulse.{rawItems, integralItem, timeItem, pedestalItem, pulseItems}
+use Rattle.pulse.proofs.put_fitting.Statement.{statement}
+use Rattle.pulse.proofs.put_fitting.Tie as tie
 
 -- the four parts, as lists of records
 module _ (c : tie.Start) where
@@ -73,8 +73,8 @@ returns c =
     let w2 = then-written _ _ (integral s) _ _ (time s ++ pedestal s) _ _ (omega (arith, behind-raw (c .before .before .before .before .before .before .before .before .before .before .before .before .before))) (wrote-integral (c .before .before .before .before .before .before .before .before .before .before .before .before)) w3 in
     then-written _ _ (raw s) _ _ (integral s ++ (time s ++ pedestal s)) _ _ (omega (arith, whole s)) (c .before .before .before .before .before .before .before .before .before .before .before .before .before .before .before .before .before .put-raw-if .ensures) w2
 
-pub put-pulse-spec : {M : Type 1} → statement M
-put-pulse-spec =
+pub put-fitting-spec : {M : Type 1} → statement M
+put-fitting-spec =
     tie.close
     (tie.spec
     put-raw-if-requires

@@ -1,7 +1,7 @@
--- `channel::measure::quality` meets its contract.
+-- `pulse::measure::quality` meets its contract.
 use borrow.Author.Tests.{lt-ltb, le-ltb}
-use Rattle.channel.proofs.measure.quality.Statement.{statement}
-use Rattle.channel.proofs.measure.quality.Tie as tie
+use Rattle.pulse.proofs.measure.quality.Statement.{statement}
+use Rattle.pulse.proofs.measure.quality.Tie as tie
 
 returns : tie.Need-returns
 returns c = rw (lt-ltb _ _ (c .if1 .taken))

@@ -1,4 +1,4 @@
--- `channel::put_raw_if` meets its contract: the header and the pairs of the part that is the data set, or nothing.
+-- `pulse::put_raw_if` meets its contract: the header and the pairs of the part that is the data set, or nothing.
 use mathlib.Core.Path.{refl}
 use mathlib.Core.List.{_∷_}
 use borrow.Author.Needs.{needs}
@@ -7,10 +7,10 @@ use Rattle.limits.specs.LimitsLaws.{most-samples}
 use Rattle.pairs.specs.Pairs.{pairItems}
 use Rattle.items.specs.declared.Item.the-variants as I
 use Rattle.items.specs.ItemsLaws.{put-written}
-use Rattle.channel.specs.Channel.{setOf, rawItems}
-use Rattle.channel.specs.InnerLaws.{part-set}
-use Rattle.channel.proofs.put_raw_if.Statement.{statement}
-use Rattle.channel.proofs.put_raw_if.Tie as tie
+use Rattle.pulse.specs.Pulse.{setOf, rawItems}
+use Rattle.pulse.specs.PulseLaws.{part-set}
+use Rattle.pulse.proofs.put_raw_if.Statement.{statement}
+use Rattle.pulse.proofs.put_raw_if.Tie as tie
 
 returns : tie.Need-returns
 unfolding rawItems
@@ -21,7 +21,7 @@ returns c =
     let x = I.Raw (record { channel = a .channel; pulse = a .i; tc = a .pulse .tc }) in
     rw on
     (put-written (x ∷ pairItems (setOf (a .row .now) (a .pulse))) refl (rw on at (s .pre .1))
-    (rw (part-set (a .row .now) (a .pulse) (s .pre .0 .0 .first .0)) at (c .before .before .put-run .ensures)))
+    (rw (part-set (a .row .now) (a .pulse) (s .pre .0 .from)) at (c .before .before .put-run .ensures)))
 
 returns-2 : tie.Need-returns-2
 returns-2 c = rw (c .if1 .left) (written-nil _ _)

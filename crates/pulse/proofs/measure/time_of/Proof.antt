@@ -1,9 +1,9 @@
--- `channel::measure::time_of` meets its contract, field by field.
-use Rattle.channel.specs.Channel.{timeItem}
+-- `pulse::measure::time_of` meets its contract, field by field.
+use Rattle.pulse.specs.Pulse.{timeItem}
 use Rattle.limits.specs.LimitsLaws.{most-samples}
 use borrow.Author.Needs.{needs}
-use Rattle.channel.proofs.measure.time_of.Statement.{statement}
-use Rattle.channel.proofs.measure.time_of.Tie as tie
+use Rattle.pulse.proofs.measure.time_of.Statement.{statement}
+use Rattle.pulse.proofs.measure.time_of.Tie as tie
 
 returns : tie.Need-returns
 unfolding timeItem

@@ -9,7 +9,7 @@ ghost use mathlib.Core.Bool.{cond};
 ghost use Prim.Native.Nat.{_≤_, min};
 ghost use lib.Dec.{ltb};
 ghost use Rattle.limits.specs.Limits.{mostSamples};
-ghost use Rattle.channel.specs.Channel.{integralItem, timeItem, pedestalItem};
+ghost use Rattle.pulse.specs.Pulse.{integralItem, timeItem, pedestalItem};
 
 fn at_most(x: u32, most: u32) -> u32
     ensures { λ r. ⌜ r ≡ min x most ⌝ }
