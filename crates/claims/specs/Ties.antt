@@ -32,7 +32,7 @@ use Rattle.host.specs.Face.{SetUpFace, OpenBlockFace, OpenEventFace, PostFace, 
 use Rattle.listing.proofs as listing
 use Rattle.listing.specs.declared.Listed.{Listed}
 use Rattle.listing.specs.Listing.{listingOf}
-use Rattle.listing.specs.Says.{Says}
+use Rattle.listing.specs.Says.{ListSays}
 
 -- a reference to lent words, samples, bytes or numbers: `now` are those it refers to
 abbrev pub Lent : Type 0
@@ -125,5 +125,5 @@ next-tied κs words scan r p = p
 pub part-tied : (κs : Lfts 1) (words : Lent) (p : Pairs) (r : Lent) → rawitems.part.Reads.Learnt κs (words, (p, tt)) r (words, (p, tt)) → now r ≡ partOf (now words) p
 part-tied κs words p r e = e
 
-pub list-tied : (κs : Lfts 2) (bytes text text′ : Lent) (r : Listed) → listing.list.Reads.Learnt κs (bytes, (text, tt)) r (bytes, (text′, tt)) → Says (listingOf (now bytes)) (now text) r (now text′)
+pub list-tied : (κs : Lfts 2) (bytes text text′ : Lent) (r : Listed) → listing.list.Reads.Learnt κs (bytes, (text, tt)) r (bytes, (text′, tt)) → ListSays (listingOf (now bytes)) (now text) r (now text′)
 list-tied κs bytes text text′ r p = p

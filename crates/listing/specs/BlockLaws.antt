@@ -6,32 +6,28 @@ use mathlib.Core.List.{List, [], _∷_, _++_, append-assoc, append-nil}
 use native.Mathlib.Omega.{arith}
 use native.Mathlib.Nat.{zero-add, add-zero}
 use lib.Dec.{eqb}
-use lib.ListN.{length, take, drop, getD, length-drop}
+use lib.ListN.{length, take, drop, length-drop}
 use lib.Seq.{drop-drop, take-all}
-use Rattle.fields.specs.Word.{read}
 use Rattle.fields.specs.Bytes.{wordsOfBytes}
 use Rattle.fields.specs.BytesLaws.{words-none, words-some, words-drop, words-le}
-use Rattle.items.specs.Items.{itemFrom}
-use Rattle.items.specs.declared.Form.{Form}
-use Rattle.items.specs.declared.Form.the-variants as F
 use Rattle.items.specs.declared.Item.{Item}
 use Rattle.scan.specs.declared.Scan.{Scan}
+use Rattle.reader.specs.declared.Step.{Step}
 use Rattle.reader.specs.declared.Step.the-variants as S
 use Rattle.reader.specs.declared.Judged.{Judged}
 use Rattle.reader.specs.declared.Judged.the-variants as J
-use Rattle.scan.specs.Meaning.{isEnd, meaningAt}
-use Rattle.scan.specs.After.{after, startOf}
-use Rattle.questions.specs.Questions.{refusalOf}
+use Rattle.scan.specs.After.{startOf}
 use Rattle.reader.specs.Reader.{stepAt, withItem, judgeAt, Out, endNumber, outOf, Reading, then, just, onJudged, readFrom}
+use Rattle.reader.specs.ReaderLaws.{ended}
 use Rattle.reader.specs.RunLaws.{items-le, end-by}
 use Rattle.text.specs.Page.{Page, put}
 use Rattle.text.specs.PageLaws.{put-append}
 use Rattle.text.specs.Line.{Line, lineText, textOf}
 use Rattle.text.specs.LineLaws.{text-append, say-one, say-both}
 use Rattle.listing.specs.declared.Block.{Block}
-use Rattle.lines.specs.declared.Second.the-variants as N
 use Rattle.lines.specs.Lines.{refusedLine, fillLines}
-use Rattle.listing.specs.Listing.{secondOf, recordLines, itemLines, fillerIn, fillersIn, isWhole, outLines, blockLines, linesFrom}
+use Rattle.entries.specs.Entries.{recordLines, fillerIn}
+use Rattle.listing.specs.Listing.{itemLines, fillersIn, isWhole, outLines, blockLines, linesFrom}
 use Rattle.listing.specs.Says.{BlockSays, ReadingSays}
 
 -- ---- words and bytes
@@ -42,52 +38,20 @@ tail-is bytes i = take-all (length bytes - i) (drop i bytes) (omega (arith, leng
 
 -- ---- a reading
 
--- the reading from the word at i, judged j
-pub read-at : (bytes : List ℕ) (i : ℕ) (s : Scan) {word : ℕ} {j k : Judged} → i + 4 ≤ length bytes → word ≡ getD (wordsOfBytes (drop i bytes)) 0 0 → j ≡ judgeAt s word → j ≡ k
-    → readFrom s (wordsOfBytes (drop i bytes)) ≡ onJudged k (s .place) (λ t. readFrom t (wordsOfBytes (drop (i + 4) bytes)))
-unfolding readFrom
-read-at bytes i s {word} {j} {k} h e f g =
-    let some = words-some (drop i bytes) (omega (arith, length-drop i bytes)) in
-    ap (readFrom s) some
-    ∙ ap (λ (x : Judged). onJudged x (s .place) (λ t. readFrom t (wordsOfBytes (drop 4 (drop i bytes))))) (ap (judgeAt s) (sym (e ∙ ap (λ (l : List ℕ). getD l 0 0) some)) ∙ sym f ∙ g)
-    ∙ ap (λ (l : List ℕ). onJudged k (s .place) (λ t. readFrom t (wordsOfBytes l))) (drop-drop 4 i bytes)
-
 -- no word is left
 pub read-end : (bytes : List ℕ) (i : ℕ) (s : Scan) {number : ℕ} → length bytes < i + 4 → number ≡ endNumber s → readFrom s (wordsOfBytes (drop i bytes)) ≡ just (outOf number (s .place))
 unfolding readFrom
 read-end bytes i s h e = ap (readFrom s) (words-none (drop i bytes) (omega (arith, length-drop i bytes))) ∙ ap just (end-by s ∙ ap (λ (n : ℕ). outOf n (s .place)) (sym e))
 
--- a second time word, one word ahead
-pub second-none : (bytes : List ℕ) (s : Scan) → length bytes < 4 → N.Nothing ≡ secondOf ((readFrom s (wordsOfBytes bytes)) .items)
-unfolding readFrom
-second-none bytes s h = rw (words-none bytes h)
-
-pub second-at : (bytes : List ℕ) (s : Scan) {word : ℕ} {j k : Judged} → 4 ≤ length bytes → word ≡ getD (wordsOfBytes bytes) 0 0 → j ≡ judgeAt s word → j ≡ k
-    → secondOf ((onJudged k (s .place) (λ t. readFrom t (wordsOfBytes (drop 4 bytes)))) .items) ≡ secondOf ((readFrom s (wordsOfBytes bytes)) .items)
-second-at bytes s h e f g = ap (λ (r : Reading). secondOf (r .items)) (sym (read-at bytes 0 s (omega arith) e f g))
-
 -- a block that is whole has a word
-start-form : (word : ℕ) → isEnd (formAt startOf word) ≡ false
-unfolding formAt
-start-form word = go (eqb (read 31 31 word) 0) (eqb (read 30 27 word) 0) (eqb (read 30 27 word) 14)
-  where
-    go : (a b c : Bool) → isEnd (cond a F.No (cond b F.Block (cond c F.Empty F.No))) ≡ false
-    go true b c = refl
-    go false true c = refl
-    go false false true = refl
-    go false false false = refl
-
 start-judged : (word : ℕ) → J.Ended ≡ judgeAt startOf word → ⊥
-unfolding judgeAt stepAt
-start-judged word e = go (isEnd (formAt startOf word)) (eqb (refusalOf startOf f word) 0) (start-form word) e
+unfolding judgeAt
+start-judged word e = go (stepAt startOf word) refl e
   where
-    f : Form
-    f = formAt startOf word
-
-    go : (a b : Bool) → a ≡ false → J.Ended ≡ withItem word (cond a S.Ended (cond b (S.Went f (after startOf (itemFrom f word))) (S.Refused (refusalOf startOf f word) 0))) → ⊥
-    go true b h e = let z : _≡_ {A = ℕ} 0 1 = cc in omega arith
-    go false true h e = let z : _≡_ {A = ℕ} 0 1 = cc in omega arith
-    go false false h e = let z : _≡_ {A = ℕ} 0 1 = cc in omega arith
+    go : (y : Step) → stepAt startOf word ≡ y → J.Ended ≡ withItem word y → ⊥
+    go (S.Went f u) i e = let z : _≡_ {A = ℕ} 0 1 = cc in omega arith
+    go (S.Refused n p) i e = let z : _≡_ {A = ℕ} 0 1 = cc in omega arith
+    go S.Ended i e = false≢true (sym (ended startOf word i))
 
 pub whole-some : (word : ℕ) (words : List ℕ) → isWhole ((readFrom startOf (word ∷ words)) .out) ≡ true → 0 < length ((readFrom startOf (word ∷ words)) .items)
 unfolding readFrom

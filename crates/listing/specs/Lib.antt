@@ -1,6 +1,5 @@
 -- What the lister prints, and its laws.
 pub mod Listing
-pub mod RecordLaws
 pub mod Says
 pub mod BlockLaws
 pub mod RoomLaws

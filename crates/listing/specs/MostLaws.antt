@@ -1,13 +1,12 @@
 -- How long a text can be: at most 23 bytes a word, and one refusal's line. Assumes nothing.
-use Prim.Native.Nat.{ℕ, zero, suc, _+_, _-_, _*_, _/_, _%_, _^_, _≤_, _<_}
+use Prim.Native.Nat.{ℕ, zero, suc, _+_, _-_, _*_, _%_, _^_, _≤_, _<_}
 use mathlib.Core.Path.{_≡_, refl, sym, ap, _∙_}
 use mathlib.Core.Bool.{Bool, true, false, cond, not, _||_}
 use mathlib.Core.List.{List, [], _∷_, _++_}
 use native.Mathlib.Omega.{arith}
-use native.Mathlib.Nat.{mod-lt, lt-of-lt-of-le}
+use native.Mathlib.Nat.{lt-of-lt-of-le}
 use borrow.Author.Tests.{ltb-false, le-leb, ne-eqb}
 use lib.Dec.{T, leb, eqb, ltb, leb→le, lit<, lit≤}
-use lib.Pow.{pow-pos}
 use lib.ListN.{length}
 use Rattle.ground.specs.Tests.{firstOf}
 use Rattle.fields.specs.Word.{fieldAt}
@@ -20,14 +19,17 @@ use Rattle.items.specs.declared.Form.{Form}
 use Rattle.items.specs.declared.Form.the-variants as F
 use Rattle.items.specs.declared.Item.{Item}
 use Rattle.scan.specs.declared.Scan.{Scan}
+use Rattle.scan.specs.declared.Meaning.{Meaning}
+use Rattle.scan.specs.declared.Meaning.the-variants as M
 use Rattle.reader.specs.declared.Judged.{Judged}
 use Rattle.reader.specs.declared.Judged.the-variants as J
 use Rattle.reader.specs.RunLaws.{items-le}
-use Rattle.scan.specs.Meaning.{unfinished, isEnd, isUnallowed, meaningAt}
+use Rattle.scan.specs.Meaning.{meaningAt, isUnallowed, unfinished}
 use Rattle.scan.specs.After.{onward, after, startOf}
-use Rattle.questions.specs.Questions.{atLimit, slotWrong, itemWrong, countWrong, refusalOf}
-use Rattle.reader.specs.Reader.{stepAt, withItem, judgeAt, Out, Whole, Broken, endOf, Reading, just, onJudged, readFrom}
+use Rattle.questions.specs.Questions.{atLimit, slotWrong, itemWrong, countWrong, ofForm, refusalOf}
+use Rattle.reader.specs.Reader.{stepBy, stepAt, withItem, judgeAt, Out, Whole, Broken, endOf, Reading, just, onJudged, readFrom}
 use Rattle.reader.specs.declared.Step.the-variants as S
+use Rattle.fields.specs.WordLaws.{field-lt}
 use Rattle.fields.specs.Bytes.{wordsOfBytes}
 use Rattle.fields.specs.BytesLaws.{words-le}
 use Rattle.text.specs.Line.{Cell, Number, cellOf, Line, lineOf}
@@ -37,18 +39,16 @@ use Rattle.lines.specs.declared.Second.the-variants as N
 use Rattle.listing.specs.declared.Listed.{Listed}
 use Rattle.listing.specs.declared.Listed.the-variants as L
 use Rattle.lines.specs.Lines.{blockName, setupName, eventName, clockName, clock27Name, windowName, pulseName, pairName, integralName, timeName, pedName, endName, fillName, emptyName, refusedName, refusedLine, fillLines, clockLine}
-use Rattle.listing.specs.Listing.{highIn, secondOf, recordLines, itemLines, fillerIn, fillersIn, isWhole, outLines, blockLines, linesFrom, lengthWrong, linesOf, listingOf}
-use Rattle.listing.specs.Says.{listedNumber, Says}
+use Rattle.entries.specs.Entries.{highIn, secondOf, recordLines, fillerIn}
+use Rattle.listing.specs.Listing.{itemLines, fillersIn, isWhole, outLines, blockLines, linesFrom, lengthWrong, linesOf, listingOf}
+use Rattle.listing.specs.Says.{listedNumber, ListSays}
 use Rattle.listing.specs.BlockLaws.{whole-some}
 
 -- ---- one record
 
-field-small : (word place width : ℕ) → fieldAt word place width < 2 ^ width
-unfolding fieldAt
-field-small word place width = mod-lt (word / 2 ^ place) (pow-pos width)
-
-field-lt : (word place width d : ℕ) → T (leb (2 ^ width) (10 ^ d)) → fieldAt word place width < 10 ^ d
-field-lt word place width d t = lt-of-lt-of-le (field-small word place width) (leb→le (2 ^ width) (10 ^ d) t)
+-- a field of so many bits has so many decimal digits
+field-digits : (word place width d : ℕ) → T (leb (2 ^ width) (10 ^ d)) → fieldAt word place width < 10 ^ d
+field-digits word place width d t = lt-of-lt-of-le (field-lt word place width) (leb→le (2 ^ width) (10 ^ d) t)
 
 -- a second time word has 24 bits
 abbrev HighSmall : Second → Type 0
@@ -75,22 +75,20 @@ clock-small r (N.High high) h k l = one clockName _ (14 ∷ []) (omega arith, tt
 
 small : (f : Form) (word : ℕ) → Small (itemFrom f word)
 unfolding blockHeaderOf parametersOf trailerOf eventHeaderOf triggerTimeOf triggerTimeHighOf emptyOf fillerOf windowOf pulseRawOf pairOf integralOf timeOf pedestalOf
-small F.Block w = record { line = λ b h. one blockName _ (1 ∷ 3 ∷ 2 ∷ []) (field-lt w 22 5 2 tt, (field-lt w 8 10 4 tt, (field-lt w 0 8 3 tt, tt))) (lit≤ tt); high = tt }
-small F.Parameters w = record { line = λ b h. one setupName _ (3 ∷ 2 ∷ 2 ∷ []) (field-lt w 18 11 4 tt, (field-lt w 9 9 3 tt, (field-lt w 0 9 3 tt, tt))) (lit≤ tt); high = tt }
-small F.Trailer w = record { line = λ b h. one endName _ (6 ∷ []) (field-lt w 0 22 7 tt, tt) (lit≤ tt); high = tt }
-small F.Event w = record { line = λ b h. one eventName _ (6 ∷ []) (field-lt w 0 22 7 tt, tt) (lit≤ tt); high = tt }
-small F.Clock w = record { line = λ b h. clock-small _ (secondOf b) (field-lt w 24 3 1 tt) (field-small w 0 24) h; high = tt }
-small F.ClockHigh w = record { line = λ b h. omega (arith, size-none); high = field-small w 0 24 }
-small F.Window w = record { line = λ b h. one windowName _ (1 ∷ 3 ∷ []) (field-lt w 23 4 2 tt, (field-lt w 0 12 4 tt, tt)) (lit≤ tt); high = tt }
-small F.Raw w = record { line = λ b h. one pulseName _ (1 ∷ 0 ∷ 3 ∷ []) (field-lt w 23 4 2 tt, (field-lt w 21 2 1 tt, (field-lt w 0 10 4 tt, tt))) (lit≤ tt); high = tt }
-small F.Pair w = record { line = λ b h. one pairName _ (3 ∷ 3 ∷ []) (pair-below (eqb (fieldAt w 29 1) 1) (eqb (fieldAt w 13 1) 1) (fieldAt w 16 13) (fieldAt w 0 13) (field-lt w 16 13 4 tt) (field-lt w 0 13 4 tt)) (lit≤ tt); high = tt }
-small F.Integral w = record { line = λ b h. one integralName _ (1 ∷ 0 ∷ 0 ∷ 5 ∷ []) (field-lt w 23 4 2 tt, (field-lt w 21 2 1 tt, (field-lt w 19 2 1 tt, (field-lt w 0 19 6 tt, tt)))) (lit≤ tt); high = tt }
-small F.Time w = record { line = λ b h. one timeName _ (1 ∷ 0 ∷ 0 ∷ 2 ∷ 1 ∷ []) (field-lt w 23 4 2 tt, (field-lt w 21 2 1 tt, (field-lt w 19 2 1 tt, (field-lt w 6 9 3 tt, (field-lt w 0 6 2 tt, tt))))) (lit≤ tt); high = tt }
-small F.Pedestal w = record { line = λ b h. one pedName _ (1 ∷ 0 ∷ 2 ∷ 3 ∷ []) (field-lt w 23 4 2 tt, (field-lt w 21 2 1 tt, (field-lt w 12 9 3 tt, (field-lt w 0 12 4 tt, tt)))) (lit≤ tt); high = tt }
-small F.Empty w = record { line = λ b h. one emptyName _ (1 ∷ []) (field-lt w 22 5 2 tt, tt) (lit≤ tt); high = tt }
+small F.Block w = record { line = λ b h. one blockName _ (1 ∷ 3 ∷ 2 ∷ []) (field-digits w 22 5 2 tt, (field-digits w 8 10 4 tt, (field-digits w 0 8 3 tt, tt))) (lit≤ tt); high = tt }
+small F.Parameters w = record { line = λ b h. one setupName _ (3 ∷ 2 ∷ 2 ∷ []) (field-digits w 18 11 4 tt, (field-digits w 9 9 3 tt, (field-digits w 0 9 3 tt, tt))) (lit≤ tt); high = tt }
+small F.Trailer w = record { line = λ b h. one endName _ (6 ∷ []) (field-digits w 0 22 7 tt, tt) (lit≤ tt); high = tt }
+small F.Event w = record { line = λ b h. one eventName _ (6 ∷ []) (field-digits w 0 22 7 tt, tt) (lit≤ tt); high = tt }
+small F.Clock w = record { line = λ b h. clock-small _ (secondOf b) (field-digits w 24 3 1 tt) (field-lt w 0 24) h; high = tt }
+small F.ClockHigh w = record { line = λ b h. omega (arith, size-none); high = field-lt w 0 24 }
+small F.Window w = record { line = λ b h. one windowName _ (1 ∷ 3 ∷ []) (field-digits w 23 4 2 tt, (field-digits w 0 12 4 tt, tt)) (lit≤ tt); high = tt }
+small F.Raw w = record { line = λ b h. one pulseName _ (1 ∷ 0 ∷ 3 ∷ []) (field-digits w 23 4 2 tt, (field-digits w 21 2 1 tt, (field-digits w 0 10 4 tt, tt))) (lit≤ tt); high = tt }
+small F.Pair w = record { line = λ b h. one pairName _ (3 ∷ 3 ∷ []) (pair-below (eqb (fieldAt w 29 1) 1) (eqb (fieldAt w 13 1) 1) (fieldAt w 16 13) (fieldAt w 0 13) (field-digits w 16 13 4 tt) (field-digits w 0 13 4 tt)) (lit≤ tt); high = tt }
+small F.Integral w = record { line = λ b h. one integralName _ (1 ∷ 0 ∷ 0 ∷ 5 ∷ []) (field-digits w 23 4 2 tt, (field-digits w 21 2 1 tt, (field-digits w 19 2 1 tt, (field-digits w 0 19 6 tt, tt)))) (lit≤ tt); high = tt }
+small F.Time w = record { line = λ b h. one timeName _ (1 ∷ 0 ∷ 0 ∷ 2 ∷ 1 ∷ []) (field-digits w 23 4 2 tt, (field-digits w 21 2 1 tt, (field-digits w 19 2 1 tt, (field-digits w 6 9 3 tt, (field-digits w 0 6 2 tt, tt))))) (lit≤ tt); high = tt }
+small F.Pedestal w = record { line = λ b h. one pedName _ (1 ∷ 0 ∷ 2 ∷ 3 ∷ []) (field-digits w 23 4 2 tt, (field-digits w 21 2 1 tt, (field-digits w 12 9 3 tt, (field-digits w 0 12 4 tt, tt)))) (lit≤ tt); high = tt }
+small F.Empty w = record { line = λ b h. one emptyName _ (1 ∷ []) (field-digits w 22 5 2 tt, tt) (lit≤ tt); high = tt }
 small F.Filler w = record { line = λ b h. omega (arith, size-none); high = tt }
-small F.No w = record { line = λ b h. omega (arith, size-none); high = tt }
-small F.End w = record { line = λ b h. omega (arith, size-none); high = tt }
 
 -- ---- one word
 
@@ -107,10 +105,10 @@ lt-cond : (b : Bool) (x y m : ℕ) → x < m → y < m → cond b x y < m
 lt-cond true x y m g h = g
 lt-cond false x y m g h = h
 
-refusal-lt : (s : Scan) (f : Form) (word : ℕ) → refusalOf s f word < 100
+refusal-lt : (s : Scan) (m : Meaning) (word : ℕ) → refusalOf s m word < 100
 unfolding refusalOf firstOf
-refusal-lt s f word =
-    lt-cond (atLimit s) _ _ 100 (lit< tt) (lt-cond (isNo f) _ _ 100 (lit< tt) (lt-cond (slotWrong s (itemFrom f word)) _ _ 100 (lit< tt) (lt-cond (not (fixedIn f word) || itemWrong s (itemFrom f word)) _ _ 100 (lit< tt) (lt-cond (countWrong s (itemFrom f word)) _ _ 100 (lit< tt) (lit< tt)))))
+refusal-lt s m word =
+    lt-cond (atLimit s) _ _ 100 (lit< tt) (lt-cond (isUnallowed m) _ _ 100 (lit< tt) (lt-cond (ofForm (λ f. slotWrong s (itemFrom f word)) m) _ _ 100 (lit< tt) (lt-cond (ofForm (λ f. not (fixedIn f word) || itemWrong s (itemFrom f word)) m) _ _ 100 (lit< tt) (lt-cond (ofForm (λ f. countWrong s (itemFrom f word)) m) _ _ 100 (lit< tt) (lit< tt)))))
 
 near-after : (s : Scan) (x : Item) → Near (after s x)
 unfolding after onward
@@ -118,15 +116,16 @@ near-after s x = omega arith
 
 good : (s : Scan) (word : ℕ) → Near s → Good (judgeAt s word)
 unfolding judgeAt stepAt
-good s word h = go (isEnd f) (eqb (refusalOf s f word) 0)
+good s word h = go (meaningAt s word)
   where
-    f : Form
-    f = formAt s word
+    by : (f : Form) (b : Bool) → Good (withItem word (cond b (S.Went f (after s (itemFrom f word))) (S.Refused (refusalOf s (M.Form f) word) (s .place))))
+    by f true = (small f word, near-after s (itemFrom f word))
+    by f false = (refusal-lt s (M.Form f) word, h)
 
-    go : (a b : Bool) → Good (withItem word (cond a S.Ended (cond b (S.Went f (after s (itemFrom f word))) (S.Refused (refusalOf s f word) (s .place)))))
-    go true b = tt
-    go false true = (small f word, near-after s (itemFrom f word))
-    go false false = (refusal-lt s f word, h)
+    go : (m : Meaning) → Good (withItem word (stepBy s m word (refusalOf s m word)))
+    go (M.Form f) = by f (eqb (refusalOf s (M.Form f) word) 0)
+    go M.Unallowed = (refusal-lt s M.Unallowed word, h)
+    go M.End = tt
 
 -- ---- one block
 
@@ -144,7 +143,7 @@ small-none o h = record { lines = omega (arith, size-none); second = tt; ends = 
 
 end-le : (s : Scan) → Near s → size (outLines (endOf s)) ≤ 22
 unfolding endOf
-end-le s h = go (atLimit s) (unfinished (s .phase))
+end-le s h = go (atLimit s) (unfinished s)
   where
     go : (a b : Bool) → size (outLines (cond a (Broken 14 (s .place)) (cond b (Broken 11 (s .place)) (Whole (s .place))))) ≤ 22
     go true b = refused-le 14 (s .place) (lit< tt) h
@@ -216,7 +215,7 @@ listing-le bytes = go (lengthWrong (length bytes)) refl
         omega (arith, words-le bytes, lines-le 0 (wordsOfBytes bytes) (omega (arith, words-le bytes)))
 
 -- a buffer of so many bytes has room for every text
-pub always-room : (bytes : List ℕ) {text : List ℕ} {r : Listed} {text′ : List ℕ} {n : ℕ} → 376854 ≤ length text → r ≡ L.NoRoom n → Says (listingOf bytes) text r text′ → ⊥
+pub always-room : (bytes : List ℕ) {text : List ℕ} {r : Listed} {text′ : List ℕ} {n : ℕ} → 376854 ≤ length text → r ≡ L.NoRoom n → ListSays (listingOf bytes) text r text′ → ⊥
 always-room bytes {text} h e s =
     let f : leb (length (listingOf bytes)) (length text) ≡ true = le-leb (length (listingOf bytes)) (length text) (omega (arith, listing-le bytes)) in
     let a : _≡_ {A = ℕ} 9 0 = sym (ap listedNumber e) ∙ s .number ∙ rw f in

@@ -13,7 +13,7 @@ use Rattle.text.specs.Page.{Page, farthest, put}
 use Rattle.text.specs.PageLaws.{put-length, put-all, place-all}
 use Rattle.listing.specs.declared.Listed.{Listed}
 use Rattle.listing.specs.declared.Listed.the-variants as L
-use Rattle.listing.specs.Says.{listedNumber, listedValue, hasRoom, Says}
+use Rattle.listing.specs.Says.{listedNumber, listedValue, hasRoom, ListSays}
 
 nil-of : (l : List ℕ) → length l ≡ 0 → l ≡ []
 nil-of [] e = refl
@@ -26,13 +26,13 @@ module _ (all text none : List ℕ) (n : ℕ) (short : length all ≤ farthest) 
   counted : n ≡ length all
   counted = ap (λ (p : Page). p .1) e ∙ place-all [] all ∙ omega arith
 
-  pub no-room : length (none ++ text) < n → Says all text (L.NoRoom n) (none ++ text)
+  pub no-room : length (none ++ text) < n → ListSays all text (L.NoRoom n) (none ++ text)
   no-room h =
       let k : length text < n = rw none-put at h in
       let f : leb (length all) (length text) ≡ _ = lt-leb (length all) (length text) (omega (arith, counted)) in
       record { number = rw f; value = counted; bytes = rw (f, none-put) }
 
-  pub room : (r : ℕ) (text′ : List ℕ) → n ≤ length (none ++ text) → length text < farthest → _≡_ {A = Page} (text′, r) (put (none ++ text, 0) all) → Says all text (L.Text r) text′
+  pub room : (r : ℕ) (text′ : List ℕ) → n ≤ length (none ++ text) → length text < farthest → _≡_ {A = Page} (text′, r) (put (none ++ text, 0) all) → ListSays all text (L.Text r) text′
   room r text′ h m g =
       let k : n ≤ length text = rw none-put at h in
       let i : length all ≤ length text = omega (arith, counted) in
@@ -52,11 +52,11 @@ listed-same (L.NoRoom n) (L.Text m) e f = absurd (omega (arith, e))
 listed-same (L.NoRoom n) (L.NoRoom m) e f = ap L.NoRoom f
 
 -- two answers that the statement allows are equal, and so is what they leave
-pub one-listing : {all text : List ℕ} {r r′ : Listed} {b b′ : List ℕ} → Says all text r b → Says all text r′ b′ → (r ≡ r′) × (b ≡ b′)
+pub one-listing : {all text : List ℕ} {r r′ : Listed} {b b′ : List ℕ} → ListSays all text r b → ListSays all text r′ b′ → (r ≡ r′) × (b ≡ b′)
 one-listing p q = (listed-same _ _ (one-result (p .number) (q .number)) (one-result (p .value) (q .value)), one-result (p .bytes) (q .bytes))
 
 -- a text that is told lies in the buffer
-module _ {all text : List ℕ} {r : Listed} {k : ℕ} {text′ : List ℕ} (e : r ≡ L.Text k) (s : Says all text r text′) where
+module _ {all text : List ℕ} {r : Listed} {k : ℕ} {text′ : List ℕ} (e : r ≡ L.Text k) (s : ListSays all text r text′) where
   pub within : k ≤ length text′
   within = go (hasRoom all text) (sym (ap listedNumber e) ∙ s .number) (sym (ap listedValue e) ∙ s .value) (s .bytes)
     where

@@ -37,7 +37,7 @@ abbrev pub hasRoom : List ℕ → List ℕ → Bool
 hasRoom all text = leb (length all) (length text)
 
 -- the text stands in front and the rest is as it was; where it has no room, all is as it was
-pub record Says (all text : List ℕ) (r : Listed) (text′ : List ℕ) : Type 0 where
+pub record ListSays (all text : List ℕ) (r : Listed) (text′ : List ℕ) : Type 0 where
   pub number : listedNumber r ≡ cond (hasRoom all text) 0 9
   pub value : listedValue r ≡ length all
   pub bytes : text′ ≡ cond (hasRoom all text) (all ++ drop (length all) text) text

@@ -9,20 +9,18 @@ use Rattle.framing.specs.declared.trigger_time.TriggerTime.{TriggerTime}
 use Rattle.raw.specs.declared.pair.SamplePair.{SamplePair}
 use Rattle.items.specs.declared.Item.{Item}
 use Rattle.items.specs.declared.Item.the-variants as I
-use Rattle.scan.specs.After.{onward}
-use Rattle.reader.specs.Reader.{stepAt, judgeAt, endNumber}
+use Rattle.reader.specs.Reader.{judgeAt, endNumber}
 use Rattle.scan.specs.declared.Scan.{Scan}
-use Rattle.reader.specs.declared.Step.{Step}
-use Rattle.reader.specs.declared.Step.the-variants as S
 use Rattle.reader.specs.declared.Judged.{Judged}
 use Rattle.reader.specs.declared.Judged.the-variants as J
 use Rattle.rawitems.specs.declared.Pairs.{Pairs}
 use Rattle.rawitems.specs.declared.Pairing.{Pairing}
 use Rattle.rawitems.specs.declared.Pairing.the-variants as G
 use Rattle.rawitems.specs.Pairs.{pairsFrom}
-use Rattle.records.specs.declared.follow.High.{High}
-use Rattle.records.specs.declared.follow.High.the-variants as H
-use Rattle.records.specs.declared.follow.Fill.{Fill}
+use Rattle.follow.specs.declared.High.{High}
+use Rattle.follow.specs.declared.High.the-variants as H
+use Rattle.follow.specs.declared.Fill.{Fill}
+use Rattle.follow.specs.Follow.{highFrom, fillFrom}
 use Rattle.records.specs.declared.answer.Record.{Record}
 use Rattle.records.specs.declared.answer.Record.the-variants as R
 use Rattle.records.specs.declared.answer.Next.{Next}
@@ -37,33 +35,6 @@ withPairs make place (G.Bad r at) = N.Refused r at
 
 -- ---- the trigger time: "optionally one or two time words"
 
--- the second time word and the scan behind it, if this item is one
-abbrev pub highOf : Item → Scan → High
-highOf (I.Block x) u = H.Nothing
-highOf (I.Parameters x) u = H.Nothing
-highOf (I.Trailer x) u = H.Nothing
-highOf (I.Event x) u = H.Nothing
-highOf (I.Clock x) u = H.Nothing
-highOf (I.ClockHigh x) u = H.Word x u
-highOf (I.Window x) u = H.Nothing
-highOf (I.Raw x) u = H.Nothing
-highOf (I.Pair x) u = H.Nothing
-highOf (I.Integral x) u = H.Nothing
-highOf (I.Time x) u = H.Nothing
-highOf (I.Pedestal x) u = H.Nothing
-highOf (I.Empty x) u = H.Nothing
-highOf (I.Filler x) u = H.Nothing
-
-abbrev pub onHigh : Judged → High
-onHigh (J.Took x u) = highOf x u
-onHigh (J.Refused n place) = H.Nothing
-onHigh J.Ended = H.Nothing
-
--- the same of the word that follows
-unfoldable pub highFrom : Scan → List ℕ → High
-highFrom t [] = H.Nothing
-highFrom t (word ∷ words) = onHigh (judgeAt t word)
-
 abbrev pub withHigh : TriggerTime → Scan → High → Next
 withHigh r t H.Nothing = N.Took (R.Time27 r) t
 withHigh r t (H.Word x u) = N.Took (R.Time48 r x) u
@@ -73,16 +44,6 @@ abbrev pub timeFrom : TriggerTime → Scan → List ℕ → Next
 timeFrom r t words = withHigh r t (highFrom t words)
 
 -- ---- the fillers, together
-
-abbrev pub onFiller : Step → ℕ → Scan → (Scan → Fill) → Fill
-onFiller (S.Went f u) n t go = go u
-onFiller (S.Refused r place) n t go = record { count = n; scan = t }
-onFiller S.Ended n t go = record { count = n; scan = t }
-
--- as many as follow, n of them read; behind the trailer no other word is taken
-unfoldable pub fillFrom : ℕ → Scan → List ℕ → Fill
-fillFrom n t [] = record { count = n; scan = t }
-fillFrom n t (word ∷ words) = onFiller (stepAt t word) n t (λ u. fillFrom (onward n) u words)
 
 -- a first filler and those that follow
 abbrev pub fillersFrom : ℕ → Scan → List ℕ → Next

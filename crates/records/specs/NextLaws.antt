@@ -40,12 +40,13 @@ use Rattle.rawitems.specs.declared.Pairs.{Pairs}
 use Rattle.rawitems.specs.declared.Pairing.{Pairing}
 use Rattle.rawitems.specs.declared.Pairing.the-variants as G
 use Rattle.rawitems.specs.Pairs.{dueBy, pairDue, onPair, pairsFrom}
-use Rattle.records.specs.declared.follow.Fill.{Fill}
+use Rattle.follow.specs.declared.Fill.{Fill}
+use Rattle.follow.specs.Follow.{highOf, onHigh, highFrom, onFiller, fillFrom}
 use Rattle.records.specs.declared.answer.Record.{Record}
 use Rattle.records.specs.declared.answer.Record.the-variants as R
 use Rattle.records.specs.declared.answer.Next.{Next}
 use Rattle.records.specs.declared.answer.Next.the-variants as N
-use Rattle.records.specs.Next.{mostCount, fillerAt, AllAre, PairsMade, Made, isPair, startsPair, OfRaw, withPairs, highOf, onHigh, highFrom, withHigh, timeFrom, onFiller, fillFrom, fillersFrom, recordFrom, fromJudged, nextFrom}
+use Rattle.records.specs.Next.{mostCount, fillerAt, AllAre, PairsMade, Made, isPair, startsPair, OfRaw, withPairs, withHigh, timeFrom, fillersFrom, recordFrom, fromJudged, nextFrom}
 
 -- ---- the form of an accepted word, by the scan
 

@@ -13,7 +13,6 @@ use reader::Judged;
 use scan::Scan;
 
 pub mod answer;
-mod follow;
 mod raw_item;
 
 // A second time word makes the time one of 48 bits.

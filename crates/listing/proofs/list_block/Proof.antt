@@ -11,7 +11,8 @@ use Rattle.scan.specs.After.{startOf}
 use Rattle.reader.specs.Reader.{just, onJudged, readFrom}
 use Rattle.fields.specs.Bytes.{wordsOfBytes}
 use Rattle.reader.specs.RunLaws.{refused-some}
-use Rattle.listing.specs.BlockLaws.{tail-is, read-at, read-end, Left, left-all, left-is, left-took, left-none}
+use Rattle.entries.specs.AheadLaws.{read-at}
+use Rattle.listing.specs.BlockLaws.{tail-is, read-end, Left, left-all, left-is, left-took, left-none}
 use Rattle.listing.proofs.list_block.Statement.{statement}
 use Rattle.listing.proofs.list_block.Tie as tie
 
@@ -26,14 +27,14 @@ abbrev μ-loop : tie.MeasureT-loop
 μ-loop bytes text₀ from scan₀ next₀ at₀ fillers₀ text scan next at fillers = length bytes - next
 
 -- what is left at the word that was judged
-judged : (c : tie.After-judge Inv-loop μ-loop) {t : Judged} → c .judge .result ≡ t →
+judged : (c : tie.After-judge-at Inv-loop μ-loop) {t : Judged} → c .judge-at .result ≡ t →
     let l = c .before .before .before .before .loop in
     let a = c .before .before .before .before .before .before .before .before .args in
     Left (a .text .now) (a .from) (readFrom startOf (wordsOfBytes (a .bytes .now))) (l .text) (l .at) (l .fillers) (l .next) (onJudged t (l .scan .place) (λ u. readFrom u (wordsOfBytes (drop (l .next + 4) (a .bytes .now)))))
 judged c e =
     let l = c .before .before .before .before .loop in
     let a = c .before .before .before .before .before .before .before .before .args in
-    left-is (l .inv .3) (read-at (a .bytes .now) (l .next) (l .scan) (omega arith) (c .before .first-word .ensures ∙ ap (λ (b : List ℕ). getD (wordsOfBytes b) 0 0) (tail-is (a .bytes .now) (l .next))) (c .judge .ensures .answer) e)
+    left-is (l .inv .3) (read-at (a .bytes .now) (l .next) (l .scan) (omega arith) (c .before .first-word .ensures ∙ ap (λ (b : List ℕ). getD (wordsOfBytes b) 0 0) (tail-is (a .bytes .now) (l .next))) (c .judge-at .ensures .answer) e)
 
 loop-holds : tie.Need-loop-holds Inv-loop μ-loop
 loop-holds c =
@@ -45,8 +46,8 @@ loop-again c =
     let l = c .before .before .before .before .before .before .before .before .before .before .before .before .before .loop in (
       omega arith,
       omega arith,
-      c .before .before .before .put-item .kept .0 ∙ l .inv .2,
-      left-took (c .before .before .before .before .before .before .before .before .before .before .before .before .before .before .before .before .before .args .bytes .now) _ (judged (c .before .before .before .before .before .before .before .before .before) (c .before .before .before .before .before .before .before .judged .given .1)) (c .before .before .before .put-item .ensures) (c .filler-in .ensures .0),
+      c .before .before .before .list-item .kept .0 ∙ l .inv .2,
+      left-took (c .before .before .before .before .before .before .before .before .before .before .before .before .before .before .before .before .before .args .bytes .now) _ (judged (c .before .before .before .before .before .before .before .before .before) (c .before .before .before .before .before .before .before .judged .given .1)) (c .before .before .before .list-item .ensures) (c .filler-in .ensures .0),
     )
 
 same-length : tie.Need-same-length Inv-loop μ-loop
@@ -56,7 +57,7 @@ returns : tie.Need-returns Inv-loop μ-loop
 returns c =
     let e = c .before .before .before .before .before .judged2 .given .1 in
     let j = c .before .before .before .before .before .before .before in
-    left-none (left-is (judged j e) (ap just (refused-some _ _ (sym e ∙ j .judge .ensures .answer)))) (c .before .before .stop .ensures)
+    left-none (left-is (judged j e) (ap just (refused-some _ _ (sym e ∙ j .judge-at .ensures .answer)))) (c .before .before .stop .ensures)
 
 same-length-2 : tie.Need-same-length-2 Inv-loop μ-loop
 same-length-2 c = c .before .before .stop2 .kept .0 ∙ c .before .before .before .before .before .before .before .before .before .before .loop .inv .2

@@ -7,7 +7,7 @@ use Rattle.listing.proofs.put_listing.Tie as tie
 
 returns : tie.Need-returns
 unfolding listingOf linesOf
-returns c = say-one _ _ _ _ (c .before .before .put-refused .ensures) (rw (c .before .before .before .before .if1 .taken))
+returns c = say-one _ _ _ _ (c .before .before .put-refused .ensures) (rw (c .before .before .before .before .before .if1 .taken, c .before .before .before .number .ensures))
 
 returns-2 : tie.Need-returns-2
 unfolding listingOf linesOf
@@ -17,6 +17,7 @@ pub put-listing-spec : {M : Type 1} → statement M
 put-listing-spec =
     tie.close
     (tie.spec
+    (λ c κs. search needs)
     (λ c κs. search needs)
     (λ c. search needs)
     returns

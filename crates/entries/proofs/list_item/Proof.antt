@@ -1,9 +1,9 @@
--- `listing::put_item` meets its contract: each record's line.
+-- `entries::list_item` meets its contract: each record's line.
 use mathlib.Core.Path.{refl}
-use Rattle.listing.specs.RecordLaws.{item-line, item-none, item-clock}
+use Rattle.entries.specs.RecordLaws.{item-line, item-none, item-clock}
 use borrow.Author.Needs.{needs}
-use Rattle.listing.proofs.put_item.Statement.{statement}
-use Rattle.listing.proofs.put_item.Tie as tie
+use Rattle.entries.proofs.list_item.Statement.{statement}
+use Rattle.entries.proofs.list_item.Tie as tie
 
 returns : tie.Need-returns
 returns c = item-line (c .before .before .before .before .before .item .given .1) _ _ _ _ (c .before .before .put-block .ensures) refl
@@ -47,8 +47,8 @@ returns-13 c = item-line (c .before .before .before .before .before .item12 .giv
 returns-14 : tie.Need-returns-14
 returns-14 c = item-none (c .enum-told2 .given .1) _ _ refl
 
-pub put-item-spec : {M : Type 1} → statement M
-put-item-spec =
+pub list-item-spec : {M : Type 1} → statement M
+list-item-spec =
     tie.close
     (tie.spec
     (λ c. search needs)

@@ -1,7 +1,7 @@
 // What follows a record's first word: the second time word, the other fillers.
 ghost use mathlib.Core.Path.{_≡_};
 ghost use lib.ListN.{drop};
-ghost use Rattle.records.specs.Next.{highOf, highFrom, fillFrom};
+ghost use Rattle.follow.specs.Follow.{highOf, highFrom, fillFrom};
 use framing::trigger_time_high::TriggerTimeHigh;
 use items::Item;
 use reader::Judged;
@@ -30,7 +30,7 @@ fn high_of(item: Item, after: Scan) -> High
     }
 }
 
-pub(crate) fn high_from(words: &[u32], from: usize, scan: Scan) -> High
+pub fn high_from(words: &[u32], from: usize, scan: Scan) -> High
     ensures { λ r. ⌜ r ≡ highFrom scan (drop from (now (words .entry))) ⌝ }
 {
     if from < words.len() {
@@ -46,7 +46,7 @@ pub(crate) fn high_from(words: &[u32], from: usize, scan: Scan) -> High
 }
 
 // A first filler was read.
-pub(crate) fn fill_from(words: &[u32], from: usize, scan: Scan) -> Fill
+pub fn fill_from(words: &[u32], from: usize, scan: Scan) -> Fill
     ensures { λ r. ⌜ r ≡ fillFrom 1 scan (drop from (now (words .entry))) ⌝ }
 {
     let mut t = scan;

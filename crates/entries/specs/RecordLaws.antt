@@ -9,7 +9,7 @@ use Rattle.items.specs.declared.Item.the-variants as I
 use Rattle.framing.specs.declared.trigger_time.TriggerTime.{TriggerTime}
 use Rattle.lines.specs.declared.Second.{Second}
 use Rattle.lines.specs.Lines.{clockLine}
-use Rattle.listing.specs.Listing.{secondOf, recordLines}
+use Rattle.entries.specs.Entries.{secondOf, recordLines}
 
 -- the lines of the record x, which is y: one line, or none
 pub item-line : {x y : Item} → x ≡ y → (p q : Page) (behind : List Item) (l : Line) → q ≡ put p (lineText l) → recordLines y behind ≡ l ∷ [] → q ≡ put p (textOf (recordLines x behind))

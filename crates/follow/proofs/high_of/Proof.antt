@@ -1,4 +1,4 @@
--- `records::follow::high_of` meets its contract.
+-- `follow::high_of` meets its contract.
 use Prim.Native.Nat.{ℕ}
 use mathlib.Core.Path.{_≡_, refl}
 use mathlib.Core.List.{List, [], _∷_}
@@ -9,10 +9,10 @@ use Rattle.items.specs.declared.Item.{Item}
 use Rattle.items.specs.declared.Item.the-variants as I
 use Rattle.items.proofs.Item.{the-type}
 use Rattle.scan.specs.declared.Scan.{Scan}
-use Rattle.records.specs.declared.follow.High.the-variants as H
-use Rattle.records.specs.Next.{highOf}
-use Rattle.records.proofs.follow.high_of.Statement.{statement}
-use Rattle.records.proofs.follow.high_of.Tie as tie
+use Rattle.follow.specs.declared.High.the-variants as H
+use Rattle.follow.specs.Follow.{highOf}
+use Rattle.follow.proofs.high_of.Statement.{statement}
+use Rattle.follow.proofs.high_of.Tie as tie
 
 abbrev others : List ℕ
 others = 0 ∷ 1 ∷ 2 ∷ 3 ∷ 4 ∷ 6 ∷ 7 ∷ 8 ∷ 9 ∷ 10 ∷ 11 ∷ 12 ∷ 13 ∷ []

@@ -1,7 +1,7 @@
--- `listing::high_in` meets its contract.
+-- `entries::high_in` meets its contract.
 use borrow.Author.Needs.{needs}
-use Rattle.listing.proofs.high_in.Statement.{statement}
-use Rattle.listing.proofs.high_in.Tie as tie
+use Rattle.entries.proofs.high_in.Statement.{statement}
+use Rattle.entries.proofs.high_in.Tie as tie
 
 returns-6 : tie.Need-returns-6
 returns-6 c = rw (c .before .item .given .1)

@@ -1,13 +1,13 @@
--- `records::follow::high_from` meets its contract.
+-- `follow::high_from` meets its contract.
 use mathlib.Core.Path.{_≡_, sym, ap, _∙_}
 use native.Mathlib.Omega.{arith}
 use borrow.Author.Needs.{needs}
 use lib.ListN.{drop, drop-of-length-le}
 use Rattle.reader.specs.declared.Judged.{Judged}
-use Rattle.records.specs.Next.{onHigh, highFrom}
-use Rattle.records.specs.AtLaws.{high-at}
-use Rattle.records.proofs.follow.high_from.Statement.{statement}
-use Rattle.records.proofs.follow.high_from.Tie as tie
+use Rattle.follow.specs.Follow.{onHigh, highFrom}
+use Rattle.follow.specs.AtLaws.{high-at}
+use Rattle.follow.proofs.high_from.Statement.{statement}
+use Rattle.follow.proofs.high_from.Tie as tie
 
 -- what is answered of the word that follows
 judged : (c : tie.After-judge-at) {y : Judged} → c .judge-at .result ≡ y → let a = c .before .before .before .before .args in highFrom (a .scan) (drop (a .from) (a .words .now)) ≡ onHigh y

@@ -1,12 +1,12 @@
--- `listing::first_word` meets its contract.
+-- `entries::first_word` meets its contract.
 use Prim.Native.Nat.{ℕ}
 use mathlib.Core.Path.{ap, sym, _∙_}
 use mathlib.Core.List.{List}
 use lib.ListN.{getD}
 use Rattle.fields.specs.BytesLaws.{words-none, words-some}
 use borrow.Author.Needs.{needs}
-use Rattle.listing.proofs.first_word.Statement.{statement}
-use Rattle.listing.proofs.first_word.Tie as tie
+use Rattle.entries.proofs.first_word.Statement.{statement}
+use Rattle.entries.proofs.first_word.Tie as tie
 
 returns : tie.Need-returns
 returns c = sym (ap (λ (l : List ℕ). getD l 0 0) (words-none (c .before .before .args .bytes .now) (c .if1 .taken)))

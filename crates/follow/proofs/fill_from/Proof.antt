@@ -1,4 +1,4 @@
--- `records::follow::fill_from` meets its contract.
+-- `follow::fill_from` meets its contract.
 use Prim.Native.Nat.{_+_, _-_}
 use mathlib.Core.Path.{_≡_, refl, sym, ap, _∙_}
 use native.Mathlib.Omega.{arith}
@@ -6,10 +6,10 @@ use borrow.Author.Needs.{needs}
 use lib.ListN.{length, drop, drop-of-length-le}
 use Rattle.scan.specs.After.{onward}
 use Rattle.reader.specs.declared.Step.{Step}
-use Rattle.records.specs.Next.{onFiller, fillFrom}
-use Rattle.records.specs.AtLaws.{fill-at}
-use Rattle.records.proofs.follow.fill_from.Statement.{statement}
-use Rattle.records.proofs.follow.fill_from.Tie as tie
+use Rattle.follow.specs.Follow.{onFiller, fillFrom}
+use Rattle.follow.specs.AtLaws.{fill-at}
+use Rattle.follow.proofs.fill_from.Statement.{statement}
+use Rattle.follow.proofs.fill_from.Tie as tie
 
 abbrev Inv-loop : tie.InvT-loop
 Inv-loop words from t₀ count₀ at₀ t count at = fillFrom count₀ t₀ (drop from words) ≡ fillFrom count t (drop at words)

@@ -1,0 +1,64 @@
+-- What the lister prints of one record. Assumes nothing.
+use Prim.Native.Nat.{ℕ}
+use mathlib.Core.List.{List, [], _∷_}
+use Rattle.items.specs.declared.Item.{Item}
+use Rattle.items.specs.declared.Item.the-variants as I
+use Rattle.text.specs.Line.{Line}
+use Rattle.lines.specs.declared.Second.{Second}
+use Rattle.lines.specs.declared.Second.the-variants as S
+use Rattle.lines.specs.Lines.{blockLine, setupLine, eventLine, clockLine, windowLine, pulseLine, pairLine, integralLine, timeLine, pedLine, endLine, emptyLine}
+
+-- the second time word, where one follows
+abbrev pub highIn : Item → Second
+highIn (I.Block r) = S.Nothing
+highIn (I.Parameters r) = S.Nothing
+highIn (I.Trailer r) = S.Nothing
+highIn (I.Event r) = S.Nothing
+highIn (I.Clock r) = S.Nothing
+highIn (I.ClockHigh r) = S.High (r .high)
+highIn (I.Window r) = S.Nothing
+highIn (I.Raw r) = S.Nothing
+highIn (I.Pair r) = S.Nothing
+highIn (I.Integral r) = S.Nothing
+highIn (I.Time r) = S.Nothing
+highIn (I.Pedestal r) = S.Nothing
+highIn (I.Empty r) = S.Nothing
+highIn (I.Filler r) = S.Nothing
+
+abbrev pub secondOf : List Item → Second
+secondOf [] = S.Nothing
+secondOf (x ∷ xs) = highIn x
+
+-- the line of a record, by what follows it; two time words are one line, fillers are counted
+abbrev pub recordLines : Item → List Item → List Line
+recordLines (I.Block r) behind = blockLine r ∷ []
+recordLines (I.Parameters r) behind = setupLine r ∷ []
+recordLines (I.Trailer r) behind = endLine r ∷ []
+recordLines (I.Event r) behind = eventLine r ∷ []
+recordLines (I.Clock r) behind = clockLine r (secondOf behind) ∷ []
+recordLines (I.ClockHigh r) behind = []
+recordLines (I.Window r) behind = windowLine r ∷ []
+recordLines (I.Raw r) behind = pulseLine r ∷ []
+recordLines (I.Pair r) behind = pairLine r ∷ []
+recordLines (I.Integral r) behind = integralLine r ∷ []
+recordLines (I.Time r) behind = timeLine r ∷ []
+recordLines (I.Pedestal r) behind = pedLine r ∷ []
+recordLines (I.Empty r) behind = emptyLine r ∷ []
+recordLines (I.Filler r) behind = []
+
+-- 1 for a filler
+abbrev pub fillerIn : Item → ℕ
+fillerIn (I.Block r) = 0
+fillerIn (I.Parameters r) = 0
+fillerIn (I.Trailer r) = 0
+fillerIn (I.Event r) = 0
+fillerIn (I.Clock r) = 0
+fillerIn (I.ClockHigh r) = 0
+fillerIn (I.Window r) = 0
+fillerIn (I.Raw r) = 0
+fillerIn (I.Pair r) = 0
+fillerIn (I.Integral r) = 0
+fillerIn (I.Time r) = 0
+fillerIn (I.Pedestal r) = 0
+fillerIn (I.Empty r) = 0
+fillerIn (I.Filler r) = 1
