@@ -1,0 +1,3 @@
+pub mod BackLaws
+pub mod Numbers
+pub mod NumbersLaws
