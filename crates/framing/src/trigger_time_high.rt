@@ -12,6 +12,9 @@ pub struct TriggerTimeHigh {
 impl TriggerTimeHigh {
     pub const HIGH_MAX: u32 = 16777215;
 
+    // The greatest time: 48 bits, these and the 24 of the word before.
+    pub const TIME_MAX: u64 = 281474976710655;
+
     // Whether each field is at most its largest value; then the word keeps them all.
     pub fn fits(self) -> bool
         ensures { λ r. ⌜ r ≡ fit (triggerTimeHigh self) ⌝ }

@@ -15,10 +15,10 @@ use Rattle.items.specs.Items.{wordsOf}
 use Rattle.items.specs.declared.Item.{Item}
 use Rattle.items.specs.declared.Item.the-variants as I
 use Rattle.event.specs.Event.{rowsOk, eventItems}
-use Rattle.writer.specs.declared.State.{State}
+use Rattle.state.specs.declared.State.{State}
 use Rattle.writer.specs.declared.Answer.{Answer}
 use Rattle.writer.specs.declared.Finished.{Finished}
-use Rattle.writer.specs.State.{blockOk, eventOk, stateOk, isIdle, isBlock, isEvent, idle, blank, withBlock, withEvent, withMark, withClosed}
+use Rattle.state.specs.State.{blockOk, eventOk, stateOk, isIdle, isBlock, isEvent, idle, blank, withBlock, withEvent, withMark, withClosed}
 
 -- what is left where the number is 0, the call accepted, and where it is not: "Every other refusal hands back the same state; store and words stay as lent."
 abbrev pub ifAccepted : {A : Type 0} → ℕ → A → A → A

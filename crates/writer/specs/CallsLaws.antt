@@ -12,8 +12,8 @@ use Rattle.settings.specs.declared.Settings.{Settings}
 use Rattle.settings.specs.Ranges.{settingsOk}
 use Rattle.samples.specs.Sample.{samplesOk}
 use Rattle.event.specs.Event.{rowsOk}
-use Rattle.writer.specs.declared.State.{State}
-use Rattle.writer.specs.State.{blockOk, eventOk, stateOk, isIdle, isBlock, isEvent}
+use Rattle.state.specs.declared.State.{State}
+use Rattle.state.specs.State.{blockOk, eventOk, stateOk, isIdle, isBlock, isEvent}
 use Rattle.writer.specs.Calls.{ifAccepted, setUpNumber, blockItems, openBlockTable, openBlockNumber, openEventTable, openEventNumber, rowStart, postTable, postNumber, closingItems, closeTable, closeNumber, endItems, finishTable, finishNumber}
 
 -- ---- accepted or not

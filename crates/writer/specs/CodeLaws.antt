@@ -1,36 +1,16 @@
--- What the code's own way to make a test or a count comes to. Assumes nothing.
-use Prim.Native.Nat.{ℕ, _+_, _-_, _*_, _^_, _≤_, _<_}
+-- A close asks for room last. Assumes nothing.
+use Prim.Native.Nat.{ℕ, _+_, _≤_, _<_}
 use mathlib.Core.Path.{_≡_, refl, ap, _∙_}
-use mathlib.Core.Bool.{Bool, true, false, not, _&&_, cond}
+use mathlib.Core.Bool.{Bool, true, false, cond}
 use mathlib.Core.List.{List, [], _∷_, _++_}
-use native.Mathlib.Nat.{mul-le-mul}
-use native.Mathlib.Numerals.{add-one}
-use native.Mathlib.Omega.{arith}
 use borrow.Author.Tests.{lt-ltb, le-ltb, eqb-false}
 use lib.Dec.{eqb, ltb}
-use lib.ListN.{length, take, drop, getD}
-use lib.Seq.{drop-cons}
+use lib.ListN.{length, take}
 use Rattle.ground.specs.Tests.{firstOf}
 use Rattle.ground.specs.TestsLaws.{AllOff, none}
-use Rattle.writer.specs.declared.State.{State}
-use Rattle.writer.specs.State.{noMarks}
+use Rattle.state.specs.declared.State.{State}
 use Rattle.writer.specs.Calls.{closingItems, closeTable, closeNumber}
 use Rattle.writer.specs.Order.{beforeRoom}
-
--- one turn of the loop over the marks
-pub noMarks-step : (posted : List Bool) (c : ℕ) → c < length posted → noMarks (drop c posted) ≡ not (getD posted c false) && noMarks (drop (c + 1) posted)
-unfolding noMarks
-noMarks-step posted c h = rw (add-one, drop-cons posted c false)
-
-pub head-le : (parameters : Bool) → cond {A = ℕ} parameters 2 1 ≤ 2
-head-le true = omega arith
-head-le false = omega arith
-
--- the least words of as many events as a field can count do not wrap
-pub words-fit : (closed times : ℕ) → closed < 2 ^ 32 → times < 2 ^ 32 → closed * (1 + times) ≤ (2 ^ 32 - 1) * 2 ^ 32
-words-fit closed times h k = mul-le-mul {n₂ = 2 ^ 32 - 1} {m₂ = 2 ^ 32} (omega arith) (omega arith)
-
--- ---- a close asks for room last
 
 -- a row behind the others counts only where none of them holds
 early : (rs : List (ℕ × Bool)) (r : ℕ × Bool) → (firstOf rs ≡ 0 → ⊥) → firstOf (rs ++ (r ∷ [])) ≡ firstOf rs

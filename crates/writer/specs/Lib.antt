@@ -1,7 +1,6 @@
-pub mod State
-pub mod StateLaws
 pub mod Calls
 pub mod CallsLaws
+pub mod KeptLaws
 pub mod WordsLaws
 pub mod UniqueLaws
 pub mod Order

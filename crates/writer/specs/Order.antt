@@ -4,7 +4,7 @@ use mathlib.Core.Bool.{cond}
 use mathlib.Core.List.{List}
 use lib.ListN.{take}
 use Rattle.ground.specs.Tests.{firstOf}
-use Rattle.writer.specs.declared.State.{State}
+use Rattle.state.specs.declared.State.{State}
 use Rattle.writer.specs.declared.refuse.Wrong.{Wrong}
 use Rattle.writer.specs.Calls.{closeTable}
 

@@ -17,7 +17,7 @@ use Rattle.items.specs.Items.{wordsOf}
 use Rattle.items.specs.ItemsLaws.{length-words}
 use Rattle.items.specs.declared.Item.{Item}
 use Rattle.items.specs.declared.Item.the-variants as I
-use Rattle.writer.specs.State.{headWords}
+use Rattle.state.specs.State.{headWords}
 use Rattle.writer.specs.Calls.{blockItems, fillersTo, endItems}
 
 -- a writer leaves the buffer as long as it was

@@ -1,34 +1,14 @@
 // One event, one store: the state of a run and the six calls that change it.
 ghost use mathlib.Core.Path.{_≡_};
-ghost use Rattle.writer.specs.State.{idle, blank};
 ghost use Rattle.writer.specs.Calls.{SetUpSays, OpenBlockSays, OpenEventSays, PostSays, CloseSays, FinishSays};
 
 mod put;
-mod ranges;
 mod refuse;
 
 use refusals::Refusal;
 use settings::Settings;
-
-// No block is open, a block is open, an event of it is open.
-pub enum Phase {
-    Idle,
-    Block,
-    Event,
-}
-
-// `events` are those the block is to hold, `closed` those it holds so far, `words` the words written to it so far.
-pub struct State {
-    pub settings: Settings,
-    pub phase: Phase,
-    pub block: u32,
-    pub events: u32,
-    pub event: u32,
-    pub time: u64,
-    pub posted: [bool; 16],
-    pub closed: u32,
-    pub words: usize,
-}
+use state::Phase;
+use state::State;
 
 // What a call answers: a refused one hands back the state that came in.
 pub struct Answer {
@@ -43,54 +23,18 @@ pub struct Finished {
     pub length: usize,
 }
 
-// No block is open: all but the settings is zero.
-fn idle_state(settings: Settings) -> State
-    ensures { λ r. ⌜ r ≡ idle settings ⌝ }
-{
-    State {
-        settings,
-        phase: Phase::Idle,
-        block: 0,
-        events: 0,
-        event: 0,
-        time: 0,
-        posted: [false; 16],
-        closed: 0,
-        words: 0,
-    }
-}
-
-// What stands for no state: every call refuses it, since its settings are out of range.
-fn no_state() -> State
-    ensures { λ r. ⌜ r ≡ blank ⌝ }
-{
-    idle_state(Settings {
-        mode: 0,
-        nw: 0,
-        pl: 0,
-        nsb: 0,
-        nsa: 0,
-        limit: 0,
-        thresholds: [0; 16],
-        slot: 0,
-        parameters: false,
-        times: 0,
-        multiple: 0,
-    })
-}
-
 // A state for those settings, idle.
 pub fn set_up(settings: Settings) -> Answer
     ensures { λ r. ⌜ SetUpSays settings r ⌝ }
 {
     if settings::in_range(settings) {
-        let state = idle_state(settings);
+        let state = state::idle_state(settings);
         return Answer {
             refusal: Refusal::None,
             state,
         };
     }
-    let state = no_state();
+    let state = state::no_state();
     Answer {
         refusal: Refusal::Setting,
         state,
@@ -216,7 +160,7 @@ pub fn finish(state: State, words: &mut [u32]) -> Finished
     if refusals::accepted(refusal) {
         let settings = state.settings;
         let length = put::put_end(words, state.words, settings);
-        let idle = idle_state(settings);
+        let idle = state::idle_state(settings);
         return Finished {
             refusal,
             state: idle,

@@ -7,17 +7,17 @@ ghost use lib.ListN.{getD};
 ghost use Rattle.refusals.specs.Refusal.{numberOf};
 ghost use Rattle.writer.specs.Calls.{openBlockNumber, openEventNumber, postNumber, finishNumber};
 ghost use Rattle.writer.specs.Order.{firstWrong, beforeRoom};
-use crate::State;
 use crate::put::end_words;
-use crate::ranges::block_ok;
-use crate::ranges::event_ok;
-use crate::ranges::head_words;
-use crate::ranges::is_block;
-use crate::ranges::is_event;
-use crate::ranges::is_idle;
-use crate::ranges::state_ok;
 use items::put::room_short;
 use refusals::Refusal;
+use state::State;
+use state::ranges::block_ok;
+use state::ranges::event_ok;
+use state::ranges::head_words;
+use state::ranges::is_block;
+use state::ranges::is_event;
+use state::ranges::is_idle;
+use state::ranges::state_ok;
 
 // What is wrong with a call, in the paper's order of refusals: 10, 7, 8, 4, 5, 6, 2, 3, 9.
 pub(crate) struct Wrong {

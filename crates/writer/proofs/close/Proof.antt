@@ -13,8 +13,8 @@ use Rattle.items.specs.ItemsLaws.{length-words}
 use Rattle.event.specs.Event.{lentOk, eventItems}
 use Rattle.event.specs.Inner.{Lent}
 use Rattle.event.specs.EventLaws.{lent-enough}
-use Rattle.writer.specs.State.{withClosed}
-use Rattle.writer.specs.StateLaws.{state-settings, event-says}
+use Rattle.state.specs.State.{withClosed}
+use Rattle.state.specs.StateLaws.{state-settings, event-says}
 use Rattle.writer.specs.CallsLaws.{CloseAccepted, close-accepted}
 use Rattle.writer.specs.Calls.{closingItems}
 use Rattle.writer.specs.Order.{beforeRoom}

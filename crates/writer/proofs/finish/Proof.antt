@@ -4,7 +4,7 @@ use native.Mathlib.Omega.{arith}
 use borrow.Author.Needs.{needs}
 use borrow.Author.Tests.{eqb-true}
 use lib.ListN.{length}
-use Rattle.writer.specs.StateLaws.{state-settings, trailer-fits}
+use Rattle.state.specs.StateLaws.{state-settings, trailer-fits}
 use Rattle.writer.specs.CallsLaws.{FinishAccepted, finish-accepted}
 use Rattle.writer.specs.Calls.{endItems}
 use Rattle.writer.specs.WordsLaws.{next-place}

@@ -3,8 +3,8 @@ use mathlib.Core.Path.{sym, ap, _∙_}
 use borrow.Author.Needs.{needs}
 use borrow.Author.Tests.{eqb-true}
 use lib.ListN.{length}
-use Rattle.writer.specs.State.{withBlock}
-use Rattle.writer.specs.StateLaws.{state-settings}
+use Rattle.state.specs.State.{withBlock}
+use Rattle.state.specs.StateLaws.{state-settings}
 use Rattle.writer.specs.CallsLaws.{OpenBlockAccepted, open-block-accepted}
 use Rattle.writer.specs.Calls.{blockItems}
 use Rattle.writer.specs.WordsLaws.{next-place}

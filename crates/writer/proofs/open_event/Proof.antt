@@ -1,7 +1,7 @@
 -- `writer::open_event` meets its contract. Assumes nothing.
 use mathlib.Core.Path.{sym, _∙_}
 use borrow.Author.Needs.{needs}
-use Rattle.writer.specs.State.{withEvent}
+use Rattle.state.specs.State.{withEvent}
 use Rattle.writer.proofs.open_event.Statement.{statement}
 use Rattle.writer.proofs.open_event.Tie as tie
 

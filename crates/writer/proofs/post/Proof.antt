@@ -6,7 +6,7 @@ use borrow.Author.Needs.{needs}
 use borrow.Author.Tests.{eqb-true}
 use lib.ListN.{length, length-take, length-drop}
 use Rattle.ground.specs.SpliceLaws.{part-splice}
-use Rattle.writer.specs.State.{withMark}
+use Rattle.state.specs.State.{withMark}
 use Rattle.writer.specs.Calls.{rowStart}
 use Rattle.writer.specs.CallsLaws.{PostAccepted, post-accepted, row-fits}
 use Rattle.writer.proofs.post.Statement.{statement}

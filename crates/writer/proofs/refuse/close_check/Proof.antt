@@ -11,8 +11,8 @@ use Rattle.ground.specs.Tests.{firstOf}
 use Rattle.event.specs.Event.{rowsOk}
 use Rattle.event.specs.Inner.{Lent}
 use Rattle.event.specs.EventLaws.{lent-enough}
-use Rattle.writer.specs.State.{stateOk, isEvent}
-use Rattle.writer.specs.StateLaws.{state-settings}
+use Rattle.state.specs.State.{stateOk, isEvent}
+use Rattle.state.specs.StateLaws.{state-settings}
 use Rattle.writer.specs.Calls.{closeTable}
 use Rattle.writer.specs.Order.{beforeRoom}
 use Rattle.writer.proofs.refuse.close_check.Statement.{statement}

@@ -5,8 +5,8 @@ use native.Mathlib.Omega.{arith}
 use borrow.Author.Needs.{needs}
 use borrow.Author.Tests.{not-true, not-false}
 use Rattle.ground.specs.Tests.{firstOf}
-use Rattle.writer.specs.State.{stateOk}
-use Rattle.writer.specs.StateLaws.{state-settings, trailer-fits}
+use Rattle.state.specs.State.{stateOk}
+use Rattle.state.specs.StateLaws.{state-settings, trailer-fits}
 use Rattle.writer.specs.Calls.{finishTable, finishNumber}
 use Rattle.writer.specs.WordsLaws.{end-length, multiple-positive}
 use Rattle.writer.proofs.refuse.finish_check.Statement.{statement}

@@ -1,10 +1,11 @@
--- `writer::ranges::words_ok` meets its contract. Assumes nothing.
+-- `state::ranges::words_ok` meets its contract. Assumes nothing.
 use native.Mathlib.Omega.{arith}
 use borrow.Author.Needs.{needs}
-use Rattle.writer.specs.State.{mostEvent, wordsOk}
-use Rattle.writer.specs.CodeLaws.{words-fit, head-le}
-use Rattle.writer.proofs.ranges.words_ok.Statement.{statement}
-use Rattle.writer.proofs.ranges.words_ok.Tie as tie
+use Rattle.limits.specs.LimitsLaws.{most-event}
+use Rattle.state.specs.State.{wordsOk}
+use Rattle.state.specs.CodeLaws.{words-fit, head-le}
+use Rattle.state.proofs.ranges.words_ok.Statement.{statement}
+use Rattle.state.proofs.ranges.words_ok.Tie as tie
 
 mul-result : tie.Need-mul-result
 mul-result c =
@@ -17,8 +18,8 @@ add-result c =
     omega (arith, words-fit (a .args .closed) (a .args .times) (omega arith) (omega arith), head-le (a .args .parameters))
 
 returns : tie.Need-returns
-unfolding wordsOk mostEvent
-returns c = rw (c .head-words .ensures)
+unfolding wordsOk
+returns c = rw (most-event, c .head-words .ensures)
 
 pub words-ok-spec : {M : Type 1} → statement M
 words-ok-spec =

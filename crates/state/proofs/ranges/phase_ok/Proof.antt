@@ -1,12 +1,12 @@
--- `writer::ranges::phase_ok` meets its contract: each arm has the tests of its phase. Assumes nothing.
+-- `state::ranges::phase_ok` meets its contract: each arm has the tests of its phase. Assumes nothing.
 use mathlib.Core.Path.{_≡_, ap, sym}
 use borrow.Author.Needs.{needs}
-use Rattle.writer.specs.declared.Phase.{Phase}
-use Rattle.writer.specs.declared.Phase.the-variants.{Idle, Block, Event}
-use Rattle.writer.specs.declared.State.{State}
-use Rattle.writer.specs.State.{phaseOk}
-use Rattle.writer.proofs.ranges.phase_ok.Statement.{statement}
-use Rattle.writer.proofs.ranges.phase_ok.Tie as tie
+use Rattle.state.specs.declared.Phase.{Phase}
+use Rattle.state.specs.declared.Phase.the-variants.{Idle, Block, Event}
+use Rattle.state.specs.declared.State.{State}
+use Rattle.state.specs.State.{phaseOk}
+use Rattle.state.proofs.ranges.phase_ok.Statement.{statement}
+use Rattle.state.proofs.ranges.phase_ok.Tie as tie
 
 in-phase : (s : State) (p : Phase) → s .phase ≡ p → phaseOk p s ≡ phaseOk (s .phase) s
 in-phase s p e = ap (λ (q : Phase). phaseOk q s) (sym e)

@@ -5,11 +5,12 @@ use mathlib.Core.List.{List, [], _∷_}
 use lib.ListN.{replicate}
 use lib.Dec.{eqb, leb, ltb}
 use Rattle.ground.specs.Tests.{allOf}
+use Rattle.limits.specs.Limits.{mostEvent}
 use Rattle.settings.specs.declared.Settings.{Settings}
 use Rattle.settings.specs.Ranges.{settingsOk}
-use Rattle.writer.specs.declared.Phase.{Phase}
-use Rattle.writer.specs.declared.Phase.the-variants.{Idle, Block, Event}
-use Rattle.writer.specs.declared.State.{State}
+use Rattle.state.specs.declared.Phase.{Phase}
+use Rattle.state.specs.declared.Phase.the-variants.{Idle, Block, Event}
+use Rattle.state.specs.declared.State.{State}
 
 -- ---- refusal 8's ranges
 
@@ -30,10 +31,6 @@ headWords s = cond (s .parameters) 2 1
 -- an event's header and time words
 abbrev pub leastEvent : Settings → ℕ
 leastEvent s = 1 + s .times
-
--- the most words of an event
-unfoldable pub mostEvent : ℕ
-mostEvent = 12051
 
 -- "words at least the header words plus, for each event closed, its header and time words, and at most 2 + 12,051 x events closed"
 unfoldable pub wordsOk : ℕ → ℕ → ℕ → ℕ → Bool

@@ -1,4 +1,4 @@
--- What a state in its ranges says, and that every accepted call keeps it there. Assumes nothing.
+-- What a state in its ranges says, and which changes keep it there. Assumes nothing.
 use Prim.Native.Nat.{ℕ, _+_, _-_, _*_, _^_, _≤_, _<_}
 use mathlib.Core.Path.{_≡_, refl, sym, ap, _∙_}
 use mathlib.Core.Bool.{Bool, true, false, cond, false≢true}
@@ -7,20 +7,16 @@ use native.Mathlib.Nat.{add-mul, zero-mul, mul-le-mul}
 use native.Mathlib.Omega.{arith}
 use borrow.Author.Tests.{leb-true, le-leb, ltb-true, lt-ltb, eqb-true}
 use lib.Dec.{leb}
-use lib.ListN.{length, set}
 use Rattle.ground.specs.TestsLaws.{and-left, and-right, Every, every, all-of}
+use Rattle.limits.specs.Limits.{mostEvent}
+use Rattle.limits.specs.LimitsLaws.{most-event}
 use Rattle.settings.specs.declared.Settings.{Settings}
 use Rattle.settings.specs.Ranges.{ranges, settingsOk}
-use Rattle.writer.specs.declared.Phase.{Phase}
-use Rattle.writer.specs.declared.Phase.the-variants.{Idle, Block, Event}
-use Rattle.writer.specs.declared.State.{State}
-use Rattle.writer.specs.State.{blockOk, eventOk, headWords, leastEvent, mostEvent, wordsOk, noMarks, inBlockOk, phaseTests, phaseOk, stateOk, isIdle, isBlock, isEvent, idle, blank, withBlock, withEvent, withMark, withClosed}
-use Rattle.event.specs.Inner.{eventLength}
-use Rattle.event.specs.EventLaws.{length-event, event-least, event-most}
-use Rattle.writer.specs.Calls.{setUpNumber, blockItems, openBlockNumber, openEventNumber, postNumber, closingItems, closeNumber, finishNumber}
-use Rattle.writer.specs.CallsLaws.{set-up-accepted, open-block-accepted, open-event-accepted, post-accepted, close-accepted, finish-accepted}
-use Rattle.writer.specs.CodeLaws.{head-le}
-use Rattle.writer.specs.WordsLaws.{block-length}
+use Rattle.state.specs.declared.Phase.{Phase}
+use Rattle.state.specs.declared.Phase.the-variants.{Idle, Block, Event}
+use Rattle.state.specs.declared.State.{State}
+use Rattle.state.specs.State.{blockOk, eventOk, headWords, leastEvent, wordsOk, noMarks, inBlockOk, phaseTests, phaseOk, stateOk, isIdle, isBlock, isEvent, idle, blank, withBlock, withEvent, withMark, withClosed}
+use Rattle.state.specs.CodeLaws.{head-le}
 
 -- ---- what a state in range says, by its phase
 
@@ -142,10 +138,9 @@ words-le s h = go (s .phase) refl
 
 -- the trailer's count fits its 22 bits
 pub trailer-fits : (s : State) → stateOk s ≡ true → s .words + 1 ≤ 4194303
-unfolding mostEvent
-trailer-fits s h = omega (arith, words-le s h)
+trailer-fits s h = omega (arith, words-le s h, most-event)
 
--- ---- accepted calls keep the state in its ranges
+-- ---- the states that calls give are in their ranges
 
 state-ok : (s : State) → settingsOk (s .settings) ≡ true → (p : Phase) → s .phase ≡ p → Every (phaseTests p s) → stateOk s ≡ true
 unfolding stateOk phaseOk
@@ -160,46 +155,14 @@ pub blank-out : stateOk blank ≡ false
 unfolding stateOk blank idle settingsOk ranges
 blank-out = refl
 
-pub set-up-kept : (s : Settings) → setUpNumber s ≡ 0 → stateOk (idle s) ≡ true
-set-up-kept s e = idle-kept s (set-up-accepted s e)
-
-pub finish-kept : (s : State) (room : ℕ) → finishNumber s room ≡ 0 → stateOk (idle (s .settings)) ≡ true
-finish-kept s room e = idle-kept (s .settings) (state-settings s (finish-accepted s room e .state))
-
 -- a block's head are its first words
-head-words : (parameters : Bool) (event words : ℕ) → words ≡ 0 → wordsOk (cond parameters 2 1) event 0 (words + cond parameters 2 1) ≡ true
+head-kept : (parameters : Bool) (event words : ℕ) → words ≡ 0 → wordsOk (cond parameters 2 1) event 0 (words + cond parameters 2 1) ≡ true
 unfolding wordsOk
-head-words parameters event words e =
+head-kept parameters event words e =
     rw (
       le-leb (cond parameters 2 1 + 0 * event) (words + cond parameters 2 1) (omega (arith, zero-mul event)),
       le-leb (words + cond parameters 2 1) (2 + 0 * mostEvent) (omega (arith, head-le parameters, zero-mul mostEvent)),
     )
-
-pub open-block-kept : (s : State) (room number events : ℕ) → openBlockNumber s room number events ≡ 0
-    → stateOk (withBlock s number events (s .words + length (blockItems (s .settings) number events))) ≡ true
-unfolding withBlock noMarks
-open-block-kept s room number events e =
-    let a = open-block-accepted s room number events e in
-    let i = idle-says s (a .state) (a .turn) in
-    let n = s .words + length (blockItems (s .settings) number events) in
-    state-ok (withBlock s number events n) (state-settings s (a .state)) Block refl (
-      rw (a .named, block-length (s .settings) number events) (head-words (s .settings .parameters) (leastEvent (s .settings)) (s .words) (i .words)),
-      (le-leb 0 events (omega arith), (refl, (refl, (refl, tt)))),
-    )
-
-pub open-event-kept : (s : State) (number time : ℕ) → openEventNumber s number time ≡ 0 → stateOk (withEvent s number time) ≡ true
-unfolding withEvent
-open-event-kept s number time e =
-    let a = open-event-accepted s number time e in
-    let t = state-tests s Block (a .state) (is-block _ (a .turn)) in
-    state-ok (withEvent s number time) (state-settings s (a .state)) Event refl (t .0, (lt-ltb _ _ (a .to-come), (a .named, tt)))
-
-pub post-kept : (s : State) (room c : ℕ) (w : List ℕ) → postNumber s room c w ≡ 0 → stateOk (withMark s (set (s .posted) c true)) ≡ true
-unfolding withMark
-post-kept s room c w e =
-    let a = post-accepted s room c w e in
-    let p = is-event _ (a .turn) in
-    state-ok (withMark s (set (s .posted) c true)) (state-settings s (a .state)) Event p (state-tests s Event (a .state) p)
 
 -- an event's words more
 words-more : (head event closed words n : ℕ) → event ≤ n → n ≤ mostEvent → wordsOk head event closed words ≡ true → wordsOk head event (closed + 1) (words + n) ≡ true
@@ -212,26 +175,36 @@ words-more head event closed words n k l h =
       le-leb (words + n) (2 + (closed + 1) * mostEvent) (omega (arith, add-mul closed 1 mostEvent)),
     )
 
-pub close-kept : (s : State) → stateOk s ≡ true → isEvent (s .phase) ≡ true → (n : ℕ) → leastEvent (s .settings) ≤ n → n ≤ mostEvent → stateOk (withClosed s (s .words + n)) ≡ true
-unfolding withClosed noMarks
-close-kept s h i n k l =
-    let t = state-tests s Event h (is-event _ i) in
-    let head = headWords (s .settings) in
-    let event = leastEvent (s .settings) in
-    let numbers : blockOk (s .block) (s .events) ≡ true = and-left _ (wordsOk head event (s .closed) (s .words)) (t .0) in
-    let words = and-right (blockOk (s .block) (s .events)) _ (t .0) in
-    let less : s .closed < s .events = ltb-true _ _ (t .1 .0) in
-    state-ok (withClosed s (s .words + n)) (state-settings s h) Block refl (
-      rw numbers (words-more head event (s .closed) (s .words) n k l words),
-      (le-leb (s .closed + 1) (s .events) (omega arith), (refl, (refl, (refl, tt)))),
-    )
+module _ (s : State) (ok : stateOk s ≡ true) where
+  pub block-kept : (number events : ℕ) → isIdle (s .phase) ≡ true → blockOk number events ≡ true → stateOk (withBlock s number events (s .words + headWords (s .settings))) ≡ true
+  unfolding withBlock noMarks
+  block-kept number events i named =
+      state-ok (withBlock s number events (s .words + headWords (s .settings))) (state-settings s ok) Block refl (
+        rw named (head-kept (s .settings .parameters) (leastEvent (s .settings)) (s .words) (idle-says s ok i .words)),
+        (le-leb 0 events (omega arith), (refl, (refl, (refl, tt)))),
+      )
 
--- an accepted close: the event's words are within an event's range
-pub closing-kept : (s : State) (store : List ℕ) (room : ℕ) → length (s .posted) ≤ 16 → closeNumber s store room ≡ 0
-    → stateOk (withClosed s (s .words + length (closingItems s store))) ≡ true
-unfolding mostEvent
-closing-kept s store room h e =
-    let a = close-accepted s store room e in
-    let ok = state-settings s (a .state) in
-    rw (length-event (s .settings) (s .event) (s .time) (s .posted) store ok)
-    (close-kept s (a .state) (a .turn) (eventLength (s .settings) (s .posted) store) (event-least (s .settings) (s .posted) store) (event-most (s .settings) (s .posted) store ok h))
+  pub event-kept : (number time : ℕ) → isBlock (s .phase) ≡ true → s .closed < s .events → eventOk number time ≡ true → stateOk (withEvent s number time) ≡ true
+  unfolding withEvent
+  event-kept number time i h named =
+      state-ok (withEvent s number time) (state-settings s ok) Event refl (state-tests s Block ok (is-block _ i) .0, (lt-ltb _ _ h, (named, tt)))
+
+  pub mark-kept : (posted : List Bool) → isEvent (s .phase) ≡ true → stateOk (withMark s posted) ≡ true
+  unfolding withMark
+  mark-kept posted i =
+      let p = is-event _ i in
+      state-ok (withMark s posted) (state-settings s ok) Event p (state-tests s Event ok p)
+
+  pub close-kept : (n : ℕ) → isEvent (s .phase) ≡ true → leastEvent (s .settings) ≤ n → n ≤ mostEvent → stateOk (withClosed s (s .words + n)) ≡ true
+  unfolding withClosed noMarks
+  close-kept n i k l =
+      let t = state-tests s Event ok (is-event _ i) in
+      let head = headWords (s .settings) in
+      let event = leastEvent (s .settings) in
+      let numbers : blockOk (s .block) (s .events) ≡ true = and-left _ (wordsOk head event (s .closed) (s .words)) (t .0) in
+      let words = and-right (blockOk (s .block) (s .events)) _ (t .0) in
+      let less : s .closed < s .events = ltb-true _ _ (t .1 .0) in
+      state-ok (withClosed s (s .words + n)) (state-settings s ok) Block refl (
+        rw numbers (words-more head event (s .closed) (s .words) n k l words),
+        (le-leb (s .closed + 1) (s .events) (omega arith), (refl, (refl, (refl, tt)))),
+      )

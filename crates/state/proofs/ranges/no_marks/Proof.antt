@@ -1,13 +1,13 @@
--- `writer::ranges::no_marks` meets its contract. The invariant: what is left has the answer of the whole. Assumes nothing.
+-- `state::ranges::no_marks` meets its contract. The invariant: what is left has the answer of the whole. Assumes nothing.
 use Prim.Native.Nat.{_-_}
 use mathlib.Core.Path.{_≡_, refl, _∙_, sym}
 use native.Mathlib.Omega.{arith}
 use borrow.Author.Needs.{needs}
 use lib.ListN.{length, drop, drop-of-length-le}
-use Rattle.writer.specs.State.{noMarks}
-use Rattle.writer.specs.CodeLaws.{noMarks-step}
-use Rattle.writer.proofs.ranges.no_marks.Statement.{statement}
-use Rattle.writer.proofs.ranges.no_marks.Tie as tie
+use Rattle.state.specs.State.{noMarks}
+use Rattle.state.specs.CodeLaws.{noMarks-step}
+use Rattle.state.proofs.ranges.no_marks.Statement.{statement}
+use Rattle.state.proofs.ranges.no_marks.Tie as tie
 
 abbrev Inv-loop : tie.InvT-loop
 Inv-loop posted channel₀ channel = noMarks posted ≡ noMarks (drop channel posted)

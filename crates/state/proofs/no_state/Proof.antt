@@ -1,8 +1,8 @@
--- `writer::no_state` meets its contract. Assumes nothing.
+-- `state::no_state` meets its contract. Assumes nothing.
 use borrow.Author.Needs.{needs}
-use Rattle.writer.specs.State.{blank}
-use Rattle.writer.proofs.no_state.Statement.{statement}
-use Rattle.writer.proofs.no_state.Tie as tie
+use Rattle.state.specs.State.{blank}
+use Rattle.state.proofs.no_state.Statement.{statement}
+use Rattle.state.proofs.no_state.Tie as tie
 
 returns : tie.Need-returns
 unfolding blank

@@ -1,7 +1,7 @@
--- `writer::ranges::in_block_ok` meets its contract. Assumes nothing.
+-- `state::ranges::in_block_ok` meets its contract. Assumes nothing.
 use borrow.Author.Needs.{needs}
-use Rattle.writer.proofs.ranges.in_block_ok.Statement.{statement}
-use Rattle.writer.proofs.ranges.in_block_ok.Tie as tie
+use Rattle.state.proofs.ranges.in_block_ok.Statement.{statement}
+use Rattle.state.proofs.ranges.in_block_ok.Tie as tie
 
 returns : tie.Need-returns
 returns c = rw (c .block-ok .ensures, c .before .words-ok .ensures)

@@ -1,8 +1,8 @@
--- `writer::ranges::state_ok` meets its contract. Assumes nothing.
+-- `state::ranges::state_ok` meets its contract. Assumes nothing.
 use borrow.Author.Needs.{needs}
-use Rattle.writer.specs.State.{stateOk}
-use Rattle.writer.proofs.ranges.state_ok.Statement.{statement}
-use Rattle.writer.proofs.ranges.state_ok.Tie as tie
+use Rattle.state.specs.State.{stateOk}
+use Rattle.state.proofs.ranges.state_ok.Statement.{statement}
+use Rattle.state.proofs.ranges.state_ok.Tie as tie
 
 returns : tie.Need-returns
 unfolding stateOk

@@ -2,26 +2,29 @@
 ghost use mathlib.Core.Path.{_≡_};
 ghost use mathlib.Core.Bool.{cond};
 ghost use Prim.Native.Nat.{_+_};
-ghost use Rattle.writer.specs.State.{blockOk, eventOk, wordsOk, noMarks, inBlockOk, phaseOk, stateOk, isIdle, isBlock, isEvent};
+ghost use Rattle.state.specs.State.{blockOk, eventOk, wordsOk, noMarks, inBlockOk, phaseOk, stateOk, isIdle, isBlock, isEvent};
 use crate::Phase;
 use crate::State;
+use framing::block_header::BlockHeader;
+use framing::event_header::EventHeader;
+use framing::trigger_time_high::TriggerTimeHigh;
 
 // A block's number and events are within refusal 8's ranges.
-pub(crate) fn block_ok(number: u32, events: u32) -> bool
+pub fn block_ok(number: u32, events: u32) -> bool
     ensures { λ r. ⌜ r ≡ blockOk number events ⌝ }
 {
-    (number <= 1023) & (1 <= events) & (events <= 255)
+    (number <= BlockHeader::NUMBER_MAX) & (1 <= events) & (events <= BlockHeader::EVENTS_MAX)
 }
 
 // So are an event's number and time.
-pub(crate) fn event_ok(number: u32, time: u64) -> bool
+pub fn event_ok(number: u32, time: u64) -> bool
     ensures { λ r. ⌜ r ≡ eventOk number time ⌝ }
 {
-    (number <= 4194303) & (time <= 281474976710655)
+    (number <= EventHeader::NUMBER_MAX) & (time <= TriggerTimeHigh::TIME_MAX)
 }
 
 // A block's header and any parameters word.
-pub(crate) fn head_words(parameters: bool) -> usize
+pub fn head_words(parameters: bool) -> usize
     ensures { λ r. ⌜ r ≡ cond parameters 2 1 ⌝ }
 {
     if parameters {
@@ -37,7 +40,7 @@ fn words_ok(parameters: bool, times: u32, closed: u32, words: usize) -> bool
     let head = head_words(parameters);
     let event = 1 + times as usize;
     let events = closed as usize;
-    (head + events * event <= words) & (words <= 2 + events * event::MOST_EVENT)
+    (head + events * event <= words) & (words <= 2 + events * limits::MOST_EVENT)
 }
 
 // No channel is posted.
@@ -88,7 +91,7 @@ fn phase_ok(s: State) -> bool
 }
 
 // The state keeps its ranges.
-pub(crate) fn state_ok(s: State) -> bool
+pub fn state_ok(s: State) -> bool
     ensures { λ r. ⌜ r ≡ stateOk s ⌝ }
 {
     let settings = s.settings;
@@ -97,7 +100,7 @@ pub(crate) fn state_ok(s: State) -> bool
     good & phase
 }
 
-pub(crate) fn is_idle(phase: Phase) -> bool
+pub fn is_idle(phase: Phase) -> bool
     ensures { λ r. ⌜ r ≡ isIdle phase ⌝ }
 {
     match phase {
@@ -107,7 +110,7 @@ pub(crate) fn is_idle(phase: Phase) -> bool
     }
 }
 
-pub(crate) fn is_block(phase: Phase) -> bool
+pub fn is_block(phase: Phase) -> bool
     ensures { λ r. ⌜ r ≡ isBlock phase ⌝ }
 {
     match phase {
@@ -117,7 +120,7 @@ pub(crate) fn is_block(phase: Phase) -> bool
     }
 }
 
-pub(crate) fn is_event(phase: Phase) -> bool
+pub fn is_event(phase: Phase) -> bool
     ensures { λ r. ⌜ r ≡ isEvent phase ⌝ }
 {
     match phase {
