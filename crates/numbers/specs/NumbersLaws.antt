@@ -14,8 +14,10 @@ use lib.Seq.{sets, drop-cons, drop-length, take-all, getD-take, getD-drop}
 use Rattle.ground.specs.Splice.{splice}
 use Rattle.ground.specs.SpliceLaws.{splice-front, length-splice, row-same}
 use Rattle.ground.specs.TestsLaws.{and-left, and-right}
+use Rattle.settings.specs.declared.Settings.{Settings}
 use Rattle.state.specs.declared.State.{State}
-use Rattle.numbers.specs.Numbers.{modeAt, plAt, slotAt, timesAt, multipleAt, thresholdsAt, most32, settingsLimits, settingsCount, blockAt, eventsAt, eventAt, closedAt, headLimits, headCount, stateCount, heldIn, isSettings, isState, table, markBit, marksNumber, headOf, headStored, stateStored}
+use Rattle.state.specs.State.{blank}
+use Rattle.numbers.specs.Numbers.{modeAt, plAt, slotAt, timesAt, multipleAt, thresholdsAt, most32, settingsLimits, settingsCount, blockAt, eventsAt, eventAt, closedAt, headLimits, headCount, stateCount, heldIn, isSettings, isState, settingsFrom, stateFrom, settingsIn, stateIn, table, markBit, marksNumber, headOf, headStored, stateStored}
 
 -- ---- held numbers, from place i on
 
@@ -156,6 +158,20 @@ getD-out (x ∷ l) (suc i) d h = getD-out l i d (omega arith)
 -- a part to the end
 pub tail-part : (l : List ℕ) (k : ℕ) → take (length l - k) (drop k l) ≡ drop k l
 tail-part l k = take-all (length l - k) (drop k l) (rw (length-drop k l) (omega arith))
+
+-- ---- loading any numbers
+
+pub settings-held : (n : List ℕ) {s : Settings} → isSettings n ≡ true → s ≡ settingsFrom n → s ≡ settingsIn n
+settings-held n e f = rw e f
+
+pub settings-none : (n : List ℕ) {s : State} → isSettings n ≡ false → s ≡ blank → s .settings ≡ settingsIn n
+settings-none n e f = rw e (ap (λ (x : State). x .settings) f)
+
+pub state-held : (n : List ℕ) {s : State} → isState n ≡ true → s ≡ stateFrom n → s ≡ stateIn n
+state-held n e f = rw e f
+
+pub state-none : (n : List ℕ) {s : State} → isState n ≡ false → s ≡ blank → s ≡ stateIn n
+state-none n e f = rw e f
 
 -- ---- storing
 

@@ -1,38 +1,43 @@
 -- `numbers::load::thresholds_from` meets its contract. Assumes nothing.
-use Prim.Native.Nat.{ℕ, _+_, _-_}
-use mathlib.Core.Path.{_≡_, refl, sym, ap, _∙_}
+use Prim.Native.Nat.{ℕ, _+_, _-_, _<_}
+use mathlib.Core.Path.{_≡_, refl, sym, _∙_, subst}
+use native.Mathlib.Nat.{zero-add}
 use native.Mathlib.Omega.{arith}
 use borrow.Author.Needs.{needs}
-use lib.ListN.{length, drop, set, length-set, length-drop}
-use lib.Seq.{sets}
-use Rattle.numbers.specs.NumbersLaws.{settings-count, threshold-32, copy-turn, copy-done, sets-whole}
+use lib.ListN.{length, take, drop, set, replicate, length-set}
+use Rattle.ground.specs.CopyLaws.{Copied, copy-start, copy-turn, copy-end}
+use Rattle.ground.specs.SpliceLaws.{splice-all}
+use Rattle.numbers.specs.Numbers.{thresholdsAt}
+use Rattle.numbers.specs.NumbersLaws.{thresholds-16, threshold-at}
 use Rattle.numbers.proofs.load.thresholds_from.Statement.{statement}
 use Rattle.numbers.proofs.load.thresholds_from.Tie as tie
 
 abbrev Inv-loop : tie.InvT-loop
 Inv-loop numbers thresholds₀ channel₀ thresholds channel =
-    (length thresholds ≡ 16) × (drop 10 numbers ≡ sets thresholds channel (drop (10 + channel) numbers))
+    (length thresholds ≡ 16) × Copied (replicate 16 0) 0 (take 16 (drop thresholdsAt numbers)) thresholds channel
 
 abbrev μ-loop : tie.MeasureT-loop
 μ-loop numbers thresholds₀ channel₀ thresholds channel = 16 - channel
 
-loop-holds : tie.Need-loop-holds Inv-loop μ-loop
-loop-holds c = let n = c .before .args .numbers .now in (refl, sym (sets-whole _ (drop 10 n) (omega (arith, settings-count n (c .before .pre), length-drop 10 n))))
-
 loop-again : tie.Need-loop-again Inv-loop μ-loop
 loop-again c =
-    let l = c .before .before .loop in
-    let n = c .before .before .before .before .args .numbers .now in
-    let p = c .before .before .before .before .pre in (
+    let turn = c .before .before in
+    let l = turn .loop in
+    let start = turn .before .before in
+    let n = start .args .numbers .now in
+    let src = take 16 (drop thresholdsAt n) in
+    let less : l .channel < 16 = omega arith in (
       simp length-set (l .inv .0),
-      l .inv .1 ∙ copy-turn _ n _ (10 + l .channel) (10 + (l .channel + 1)) (omega (arith, settings-count n p)) (omega arith)
-          ∙ ap (λ (x : ℕ). sets (set (l .thresholds) (l .channel) x) (l .channel + 1) (drop (10 + (l .channel + 1)) n)) (sym (c .at32 .ensures ∙ threshold-32 n p (l .channel))),
+      subst (λ (x : ℕ). Copied (replicate 16 0) 0 src (set (l .thresholds) (l .channel) x) (l .channel + 1)) (sym (c .at32 .ensures ∙ threshold-at n (start .pre) (l .channel) less))
+          (copy-turn (l .inv .1) (l .channel) 0 (sym (zero-add _)) (omega (arith, thresholds-16 n (start .pre))) (omega arith)),
     )
 
 returns : tie.Need-returns Inv-loop μ-loop
 returns c =
-    let n = c .before .before .before .args .numbers .now in
-    sym (c .before .loop .inv .1 ∙ copy-done _ n _ (10 + c .before .loop .channel) (omega (arith, settings-count n (c .before .before .before .pre))))
+    let start = c .before .before .before in
+    let n = start .args .numbers .now in
+    let long = thresholds-16 n (start .pre) in
+    copy-end (c .before .loop .inv .1) (omega (arith, long)) ∙ splice-all _ (take 16 (drop thresholdsAt n)) long
 
 pub thresholds-from-spec : {M : Type 1} → statement M
 thresholds-from-spec =
@@ -40,7 +45,7 @@ thresholds-from-spec =
     (tie.spec
     Inv-loop
     μ-loop
-    loop-holds
+    (λ c. (refl, copy-start _ 0 _))
     (λ c. search needs)
     (λ c κs. search needs)
     (λ c. search needs)

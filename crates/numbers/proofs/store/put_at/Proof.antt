@@ -1,39 +1,30 @@
--- `numbers::store::put_front` meets its contract. Assumes nothing.
-use mathlib.Core.Path.{_≡_, refl, sym, _∙_}
-use native.Mathlib.Numerals.{add-one}
-use Prim.Native.Nat.{_+_, _-_}
-use Rattle.numbers.specs.NumbersLaws.{copy-turn, copy-done, sets-front}
-use lib.ListN.{length, drop, length-set}
-use lib.Seq.{sets}
+-- `numbers::store::put_at` meets its contract. Assumes nothing.
+use Prim.Native.Nat.{_-_}
+use mathlib.Core.Path.{refl}
+use native.Mathlib.Omega.{arith}
 use borrow.Author.Needs.{needs}
-use Rattle.numbers.proofs.store.put_front.Statement.{statement}
-use Rattle.numbers.proofs.store.put_front.Tie as tie
+use lib.ListN.{length}
+use Rattle.ground.specs.CopyLaws.{Copied, copy-start, copy-turn, copy-end}
+use Rattle.numbers.proofs.store.put_at.Statement.{statement}
+use Rattle.numbers.proofs.store.put_at.Tie as tie
 
 abbrev Inv-loop : tie.InvT-loop
-Inv-loop numbers₀ front i₀ numbers i = (length numbers ≡ length numbers₀) × (sets numbers₀ 0 front ≡ sets numbers i (drop i front))
+Inv-loop numbers₀ at new i₀ numbers i = Copied numbers₀ at new numbers i
 
 abbrev μ-loop : tie.MeasureT-loop
-μ-loop numbers₀ front i₀ numbers i = length front - i
-
-loop-holds : tie.Need-loop-holds Inv-loop μ-loop
-loop-holds c = (refl, refl)
+μ-loop numbers₀ at new i₀ numbers i = length new - i
 
 loop-again : tie.Need-loop-again Inv-loop μ-loop
-loop-again c = (simp length-set (c .before .before .loop .inv .0), c .before .before .loop .inv .1 ∙ copy-turn _ _ _ _ (c .before .before .loop .i + 1) (c .before .loop-test .taken) (sym (add-one _)))
+loop-again c = copy-turn (c .before .before .loop .inv) _ 0 refl (c .before .loop-test .taken) (omega arith)
 
-same-length : tie.Need-same-length Inv-loop μ-loop
-same-length c = c .before .loop .inv .0
-
-returns : tie.Need-returns Inv-loop μ-loop
-returns c = sym (c .before .loop .inv .1 ∙ copy-done _ _ _ _ (c .loop-test .left)) ∙ sets-front (c .before .before .args .numbers .now) (c .before .before .args .front .now) (c .before .before .pre)
-
-pub put-front-spec : {M : Type 1} → statement M
-put-front-spec =
+pub put-at-spec : {M : Type 1} → statement M
+put-at-spec =
     tie.close
     (tie.spec
     Inv-loop
     μ-loop
-    loop-holds
+    (λ c. copy-start _ _ _)
+    (λ c. search needs)
     (λ c. search needs)
     (λ c. search needs)
     (λ c. search needs)
@@ -41,5 +32,5 @@ put-front-spec =
     (λ c. search needs)
     (λ c. search needs)
     loop-again
-    same-length
-    returns)
+    (λ c. c .before .loop .inv .size)
+    (λ c. copy-end (c .before .loop .inv) (c .loop-test .left)))

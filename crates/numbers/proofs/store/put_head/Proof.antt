@@ -1,18 +1,25 @@
 -- `numbers::store::put_head` meets its contract. Assumes nothing.
-use mathlib.Core.Path.{ap, _∙_}
-use mathlib.Core.List.{List, _++_}
-use Prim.Native.Nat.{ℕ}
-use lib.ListN.{length, drop}
-use Rattle.numbers.specs.Numbers.{headOf}
 use borrow.Author.Needs.{needs}
+use Rattle.numbers.specs.NumbersLaws.{head-short, head-stored}
 use Rattle.numbers.proofs.store.put_head.Statement.{statement}
 use Rattle.numbers.proofs.store.put_head.Tie as tie
 
 returns : tie.Need-returns
-unfolding headOf
-returns c = c .before .before .put-front .ensures ∙ ap (λ (h : List ℕ). h ++ drop (length h) (c .before .before .before .before .before .before .before .args .numbers .now)) (c .before .before .before .before .before .head-of .ensures)
+returns c = head-short (c .before .before .args .numbers .now) _ (c .if1 .taken)
+
+returns-2 : tie.Need-returns-2
+returns-2 c =
+    let head = c .before .before .before .before .before in
+    let start = head .before .before .before in
+    head-stored (start .args .numbers .now) (start .args .state) (head .before .if1 .left) (head .head-of .ensures) (c .before .before .put-at .ensures)
 
 pub put-head-spec : {M : Type 1} → statement M
 put-head-spec =
     tie.close
-    (tie.spec (λ c κs. search needs) (λ c. search needs) (λ c κs. search needs) (λ c. search needs) returns)
+    (tie.spec
+    returns
+    (λ c κs. search needs)
+    (λ c. search needs)
+    (λ c κs. search needs)
+    (λ c. search needs)
+    returns-2)
