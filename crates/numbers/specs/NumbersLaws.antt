@@ -1,23 +1,18 @@
--- Numbers that their fields hold, loaded and stored place by place. Assumes nothing.
+-- Numbers that their fields hold, and the loops over them. Assumes nothing.
 use Prim.Native.Nat.{ℕ, zero, suc, _+_, _*_, _%_, _^_, _-_, _≤_, _<_}
-use mathlib.Core.Path.{_≡_, refl, sym, ap, ap₂, _∙_}
-use mathlib.Core.Bool.{Bool, true, false, cond, false≢true, _&&_}
-use mathlib.Core.List.{List, [], _∷_, _++_}
-use lib.Dec.{leb, eqb}
+use mathlib.Core.Path.{_≡_, refl, sym, ap, _∙_}
+use mathlib.Core.Bool.{Bool, true, false, false≢true}
+use mathlib.Core.List.{List, [], _∷_}
+use lib.Dec.{leb}
 use native.Mathlib.Omega.{arith}
 use native.Mathlib.Numerals.{add-one}
 use native.Mathlib.Nat.{pow-suc, lt-of-lt-of-le, mod-eq-of-lt}
-use borrow.Author.Tests.{lt-leb, le-leb, leb-true, eq-eqb, ne-eqb}
+use borrow.Author.Tests.{lt-leb, le-leb, leb-true}
 use lib.Pow.{pow-mono}
 use lib.ListN.{length, getD, take, drop, set, replicate, length-drop, length-take, drop-of-length-le}
 use lib.Seq.{sets, drop-cons, drop-length, take-all, getD-take, getD-drop}
-use Rattle.ground.specs.Splice.{splice}
-use Rattle.ground.specs.SpliceLaws.{splice-front, length-splice, row-same}
 use Rattle.ground.specs.TestsLaws.{and-left, and-right}
-use Rattle.settings.specs.declared.Settings.{Settings}
-use Rattle.state.specs.declared.State.{State}
-use Rattle.state.specs.State.{blank}
-use Rattle.numbers.specs.Numbers.{modeAt, plAt, slotAt, timesAt, multipleAt, thresholdsAt, most32, settingsLimits, settingsCount, blockAt, eventsAt, eventAt, closedAt, headLimits, headCount, stateCount, heldIn, isSettings, isState, settingsFrom, stateFrom, settingsIn, stateIn, table, markBit, marksNumber, headOf, headStored, stateStored}
+use Rattle.numbers.specs.Numbers.{modeAt, plAt, slotAt, timesAt, multipleAt, thresholdsAt, most32, settingsLimits, settingsCount, blockAt, eventsAt, eventAt, closedAt, headLimits, headCount, stateCount, heldIn, isSettings, isState, table, markBit, marksNumber}
 
 -- ---- held numbers, from place i on
 
@@ -158,51 +153,6 @@ getD-out (x ∷ l) (suc i) d h = getD-out l i d (omega arith)
 -- a part to the end
 pub tail-part : (l : List ℕ) (k : ℕ) → take (length l - k) (drop k l) ≡ drop k l
 tail-part l k = take-all (length l - k) (drop k l) (rw (length-drop k l) (omega arith))
-
--- ---- loading any numbers
-
-pub settings-held : (n : List ℕ) {s : Settings} → isSettings n ≡ true → s ≡ settingsFrom n → s ≡ settingsIn n
-settings-held n e f = rw e f
-
-pub settings-none : (n : List ℕ) {s : State} → isSettings n ≡ false → s ≡ blank → s .settings ≡ settingsIn n
-settings-none n e f = rw e (ap (λ (x : State). x .settings) f)
-
-pub state-held : (n : List ℕ) {s : State} → isState n ≡ true → s ≡ stateFrom n → s ≡ stateIn n
-state-held n e f = rw e f
-
-pub state-none : (n : List ℕ) {s : State} → isState n ≡ false → s ≡ blank → s ≡ stateIn n
-state-none n e f = rw e f
-
--- ---- storing
-
-pub head-short : (n : List ℕ) (s : State) → length n < headCount → n ≡ headStored n s
-head-short n s h = rw (lt-leb _ _ h)
-
-pub head-stored : (n : List ℕ) (s : State) {h n′ : List ℕ} → headCount ≤ length n → h ≡ headOf s → n′ ≡ splice n 0 h → n′ ≡ headStored n s
-head-stored n s k e f = rw (le-leb _ _ k) (f ∙ ap (splice n 0) e)
-
--- the head over the front of those that are long enough
-pub head-over : (n : List ℕ) (s : State) → headCount ≤ length n → headStored n s ≡ headOf s ++ drop headCount n
-unfolding headOf
-head-over n s h = rw (le-leb _ _ h) (splice-front n (headOf s))
-
-pub state-other : (n : List ℕ) (s : State) (m : List ℕ) → (length n ≡ stateCount → ⊥) → n ≡ stateStored n s m
-state-other n s m h = rw (ne-eqb _ _ h)
-
-pub settings-other : (n : List ℕ) (s : State) (m : List ℕ) → length n ≡ stateCount → (length m ≡ settingsCount → ⊥) → n ≡ stateStored n s m
-settings-other n s m h k = rw (eq-eqb _ _ h, ne-eqb _ _ k)
-
--- the settings behind the head, then the head over the front
-pub state-stored : (n : List ℕ) (s : State) (m : List ℕ) {p n′ : List ℕ} → length n ≡ stateCount → length m ≡ settingsCount
-    → p ≡ splice n headCount m → n′ ≡ headStored p s → n′ ≡ stateStored n s m
-state-stored n s m {p = p} h k e f =
-    let long : length p ≡ length n = ap length e ∙ length-splice n headCount m (omega arith) in
-    let rest : drop headCount p ≡ m =
-        sym (take-all (length m) (drop headCount p) (rw (length-drop headCount p) (omega arith)))
-        ∙ ap (λ (l : List ℕ). take (length m) (drop headCount l)) e
-        ∙ row-same n headCount m (omega arith)
-    in
-    rw (eq-eqb _ _ h, eq-eqb _ _ k) (f ∙ head-over p s (omega arith) ∙ ap (λ (l : List ℕ). headOf s ++ l) rest)
 
 -- ---- marks, from the last channel down
 

@@ -3,8 +3,9 @@ use mathlib.Core.Path.{_≡_, sym}
 use native.Mathlib.Omega.{arith}
 use borrow.Author.Needs.{needs}
 use lib.ListN.{length, take, length-take}
-use Rattle.numbers.specs.Numbers.{isState}
-use Rattle.numbers.specs.NumbersLaws.{short-none, tail-part}
+use Rattle.numbers.specs.Numbers.{headCount}
+use Rattle.numbers.specs.NumbersLaws.{short-none}
+use Rattle.numbers.specs.StoreLaws.{state-asked}
 use Rattle.numbers.proofs.held.is_state.Statement.{statement}
 use Rattle.numbers.proofs.held.is_state.Tie as tie
 
@@ -14,12 +15,13 @@ returns c = sym (short-none (c .before .before .args .numbers .now) (c .if1 .tak
 slice-aggregate-held-in-2 : tie.Need-slice-aggregate-held-in-2
 slice-aggregate-held-in-2 c =
     let n = c .before .before .before .before .before .args .numbers .now in
-    let e : length (take 8 n) ≡ 8 = omega (arith, length-take 8 n) in
+    let e : length (take headCount n) ≡ headCount = omega (arith, length-take headCount n) in
     sym e
 
 returns-2 : tie.Need-returns-2
-unfolding isState
-returns-2 c = cc (tail-part (c .before .before .before .before .before .before .before .before .args .numbers .now) 8)
+returns-2 c =
+    let head = c .before .before in
+    state-asked (head .before .before .before .before .before .before .args .numbers .now) (head .before .before .before .head-limits .ensures) (head .held-in .ensures) (c .is-settings .ensures)
 
 pub is-state-spec : {M : Type 1} → statement M
 is-state-spec =

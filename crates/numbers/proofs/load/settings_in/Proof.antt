@@ -1,7 +1,7 @@
 -- `numbers::load::settings_in` meets its contract. Assumes nothing.
 use mathlib.Core.Path.{sym, _∙_}
 use borrow.Author.Needs.{needs}
-use Rattle.numbers.specs.NumbersLaws.{settings-held, settings-none}
+use Rattle.numbers.specs.StoreLaws.{settings-held, settings-none}
 use Rattle.numbers.proofs.load.settings_in.Statement.{statement}
 use Rattle.numbers.proofs.load.settings_in.Tie as tie
 

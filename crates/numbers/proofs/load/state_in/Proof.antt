@@ -1,7 +1,7 @@
 -- `numbers::load::state_in` meets its contract. Assumes nothing.
 use mathlib.Core.Path.{sym, _∙_}
 use borrow.Author.Needs.{needs}
-use Rattle.numbers.specs.NumbersLaws.{state-held, state-none}
+use Rattle.numbers.specs.StoreLaws.{state-held, state-none}
 use Rattle.numbers.proofs.load.state_in.Statement.{statement}
 use Rattle.numbers.proofs.load.state_in.Tie as tie
 

@@ -1,6 +1,6 @@
 -- `numbers::store::head_of` meets its contract. Assumes nothing.
 use native.Mathlib.Omega.{arith}
-use Rattle.numbers.specs.Numbers.{headOf}
+use Rattle.numbers.specs.StoreLaws.{head-made}
 use borrow.Author.Needs.{needs}
 use Rattle.numbers.proofs.store.head_of.Statement.{statement}
 use Rattle.numbers.proofs.store.head_of.Tie as tie
@@ -12,8 +12,9 @@ marks-number-requires : tie.Need-marks-number-requires
 marks-number-requires c κs = omega (arith, sixteen c)
 
 returns : tie.Need-returns
-unfolding headOf
-returns c = cc
+returns c =
+    let known = c .before .before .before .before in
+    head-made (known .before .before .before .before .args .state) (known .before .before .phase-number .ensures) (known .marks-number .ensures)
 
 pub head-of-spec : {M : Type 1} → statement M
 head-of-spec =

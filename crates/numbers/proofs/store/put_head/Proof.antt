@@ -1,6 +1,6 @@
 -- `numbers::store::put_head` meets its contract. Assumes nothing.
 use borrow.Author.Needs.{needs}
-use Rattle.numbers.specs.NumbersLaws.{head-short, head-stored}
+use Rattle.numbers.specs.StoreLaws.{head-short, head-stored}
 use Rattle.numbers.proofs.store.put_head.Statement.{statement}
 use Rattle.numbers.proofs.store.put_head.Tie as tie
 

@@ -1,6 +1,6 @@
 -- `numbers::store::put_state` meets its contract. Assumes nothing.
 use borrow.Author.Needs.{needs}
-use Rattle.numbers.specs.NumbersLaws.{state-other, settings-other, state-stored}
+use Rattle.numbers.specs.StoreLaws.{state-other, settings-other, state-stored}
 use Rattle.numbers.proofs.store.put_state.Statement.{statement}
 use Rattle.numbers.proofs.store.put_state.Tie as tie
 
