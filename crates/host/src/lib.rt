@@ -5,10 +5,10 @@ ghost use Rattle.host.specs.Check.{checkNumber};
 
 pub mod calls;
 pub mod found;
-mod numbers;
 
 use reader::Scan;
 use reader::Step;
+use refusals::Refusal;
 
 // A refusal and its place in one number; without a refusal, the words read.
 fn numbered(refusal: u32, place: u32) -> u64
@@ -23,7 +23,7 @@ pub extern "C" fn fadc250_check(bytes: &[u8]) -> u64
     ensures { λ r. ⌜ r ≡ checkNumber (now (bytes .entry)) ⌝ }
 {
     if bytes.len() % 4 != 0 {
-        return numbered(16, 0);
+        return numbered(refusals::number(Refusal::Bytes), 0);
     }
     let mut scan = Scan::start();
     let mut at: usize = 0;

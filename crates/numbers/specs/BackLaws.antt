@@ -181,4 +181,3 @@ state-back s m h k e f =
       state = rw (head-held-in s h k, stored) e;
       back = rw (stored, phase-back (s .phase), marks-back (s .posted) k, ← f);
     }
-

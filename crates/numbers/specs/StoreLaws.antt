@@ -107,9 +107,8 @@ pub state-stored : (n : List ℕ) (s : State) (m : List ℕ) {p n′ : List ℕ}
 state-stored n s m {p = p} h k e f =
     let long : length p ≡ length n = ap length e ∙ length-splice n headCount m (omega arith) in
     let rest : drop headCount p ≡ m =
-        sym (take-all (length m) (drop headCount p) (rw (length-drop headCount p) (omega arith)))
-        ∙ ap (λ (l : List ℕ). take (length m) (drop headCount l)) e
-        ∙ row-same n headCount m (omega arith)
+    sym (take-all (length m) (drop headCount p) (rw (length-drop headCount p) (omega arith)))
+    ∙ ap (λ (l : List ℕ). take (length m) (drop headCount l)) e
+    ∙ row-same n headCount m (omega arith)
     in
     rw (eq-eqb _ _ h, eq-eqb _ _ k) (f ∙ head-over p s (omega arith) ∙ ap (λ (l : List ℕ). headOf s ++ l) rest)
-

@@ -39,7 +39,7 @@ whole c = c .before .before .before .before .before .before .before .before .bef
 
 returns : tie.Need-returns Inv-loop μ-loop
 unfolding checkNumber
-returns c = rw (ne-eqb _ _ (c .before .if1 .taken)) (c .numbered .ensures)
+returns c = rw (ne-eqb _ _ (c .before .before .if1 .taken)) (c .numbered .ensures ∙ ap (λ (n : ℕ). n * 2 ^ 32 + 0) (c .before .number .ensures))
 
 loop-holds : tie.Need-loop-holds Inv-loop μ-loop
 loop-holds c = ((omega arith, refl), ap (λ (s : Scan). checkFrom s (wordsOfBytes (c .before .before .before .args .bytes .now))) (sym (c .start .ensures)))
@@ -69,6 +69,7 @@ fadc250-check-spec =
     (tie.spec
     Inv-loop
     μ-loop
+    (λ c κs. search needs)
     (λ c κs. search needs)
     returns
     (λ c κs. search needs)

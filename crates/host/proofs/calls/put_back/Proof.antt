@@ -1,9 +1,9 @@
--- `host::numbers::put_back` meets its contract. Assumes nothing.
+-- `host::calls::put_back` meets its contract. Assumes nothing.
 use mathlib.Core.Path.{sym, _∙_}
 use borrow.Author.Needs.{needs}
 use Rattle.host.specs.FaceLaws.{kept-done, kept-refused}
-use Rattle.host.proofs.numbers.put_back.Statement.{statement}
-use Rattle.host.proofs.numbers.put_back.Tie as tie
+use Rattle.host.proofs.calls.put_back.Statement.{statement}
+use Rattle.host.proofs.calls.put_back.Tie as tie
 
 returns : tie.Need-returns
 returns c = kept-done _ _ _ _ (sym (c .before .before .before .before .before .accepted .ensures) ∙ c .before .before .before .before .if1 .taken) (c .before .before .put-head .ensures)

@@ -1,10 +1,10 @@
--- `host::found::row_of` meets its contract. Assumes nothing.
+-- `host::found::pulse_row` meets its contract. Assumes nothing.
 use mathlib.Core.Path.{sym, _∙_}
 use borrow.Author.Needs.{needs}
 use Rattle.finder.specs.Find.{noPulse}
 use Rattle.host.specs.FoundLaws.{row-full, row-empty}
-use Rattle.host.proofs.found.row_of.Statement.{statement}
-use Rattle.host.proofs.found.row_of.Tie as tie
+use Rattle.host.proofs.found.pulse_row.Statement.{statement}
+use Rattle.host.proofs.found.pulse_row.Tie as tie
 
 pulse-numbers-requires : tie.Need-pulse-numbers-requires
 unfolding noPulse
@@ -17,7 +17,7 @@ returns c = c .pulse-numbers .ensures ∙ sym (row-full _ _ (c .before .before .
 returns-2 : tie.Need-returns-2
 returns-2 c = sym (row-empty (c .before .before .args .found) _ (c .if1 .left))
 
-pub row-of-spec : {M : Type 1} → statement M
-row-of-spec =
+pub pulse-row-spec : {M : Type 1} → statement M
+pulse-row-spec =
     tie.close
     (tie.spec (λ c. search needs) (λ c. search needs) pulse-numbers-requires returns returns-2)
