@@ -26,10 +26,11 @@ use Rattle.items.specs.declared.Item.the-variants as I
 use Rattle.channel.specs.declared.Parts.{Parts}
 use Rattle.channel.specs.Channel.{pairItems, windowItems, setOf, rawItems, integralItem, timeItem, pedestalItem, partsOf, pulseItems, pulsesItems, Common, commonOf, pulsesOf, channelItems, channelWords}
 use Rattle.event.specs.Event.{timeItems}
-use Rattle.writer.specs.declared.State.{State}
-use Rattle.writer.specs.State.{withClosed}
-use Rattle.writer.specs.Calls.{closingItems, closeNumber}
-use Rattle.writer.specs.CallsLaws.{done, close-accepted}
+use Rattle.state.specs.declared.State.{State}
+use Rattle.state.specs.State.{withClosed}
+use Rattle.refusing.specs.Tables.{closingItems, closeNumber}
+use Rattle.writer.specs.CallsLaws.{done}
+use Rattle.refusing.specs.TablesLaws.{close-accepted}
 use Rattle.claims.specs.Order.{Bench, Post}
 use Rattle.claims.specs.OrderLaws.{run-posts}
 use Rattle.claims.specs.Own.{EventRun, settingsIn, windowOf, closedWords, channelTypes, isOwn, ofChannel, wordsFor}

@@ -21,11 +21,14 @@ use Rattle.reader.specs.Reader.{Whole, startOf, formAt, atLimit, refusalOf, onw
 use Rattle.reader.specs.RunLaws.{check-reads}
 use Rattle.channel.specs.Channel.{commonOf, channelItems, partsOf, pulsesItems, pulseItems, integralItem, timeItem, pedestalItem}
 use Rattle.event.specs.Event.{row, rowsOk, timeItems, channelsItems, eventItems}
-use Rattle.writer.specs.declared.State.{State}
+use Rattle.state.specs.declared.State.{State}
 use Rattle.writer.specs.declared.Answer.{Answer}
 use Rattle.writer.specs.declared.Finished.{Finished}
-use Rattle.writer.specs.State.{blockOk, eventOk, mostEvent, wordsOk, noMarks, phaseOk, stateOk, idle, blank, withBlock, withEvent, withMark, withClosed}
-use Rattle.writer.specs.Calls.{setUpNumber, blockItems, openBlockTable, openBlockNumber, OpenBlockSays, openEventTable, openEventNumber, OpenEventSays, postTable, postNumber, PostSays, closeTable, closeNumber, CloseSays, fillersTo, endItems, finishTable, finishNumber, FinishSays}
+use Rattle.state.specs.State.{blockOk, eventOk, wordsOk, noMarks, phaseOk, stateOk, idle, blank, withBlock, withEvent, withMark, withClosed}
+use Rattle.limits.specs.Limits.{pairsOf, mostPairs, mostRaw, mostChannel, mostEvent}
+use Rattle.refusing.specs.Tables.{setUpNumber, openBlockTable, openBlockNumber, openEventTable, openEventNumber, postTable, postNumber, closeTable, closeNumber, finishTable, finishNumber}
+use Rattle.block.specs.Block.{blockItems, fillersTo, endItems}
+use Rattle.writer.specs.Calls.{OpenBlockSays, OpenEventSays, PostSays, CloseSays, FinishSays}
 use Rattle.text.specs.Line.{placesOf, decimal, cellsText, lineText, textOf}
 use Rattle.listing.specs.Listing.{itemLines, fillersIn, blockLines, linesFrom, linesOf, listingOf}
 use Rattle.host.specs.Check.{numberOfOut}
@@ -67,7 +70,7 @@ eventWordsA = take 8 wordsA ++ replicate 2 0
 
 -- by the calls' statements, one after the other
 called : {a b c d e : Answer} {f : Finished} {store words words′ words″ : List ℕ} → CallsOf runA blockA a b c d e f store words words′ words″ → (words″ ≡ wordsA) × (f .length ≡ 10)
-unfolding blockHeader parameters eventHeader triggerTime triggerTimeHigh M.integral M.time M.pedestal trailer filler settingsOf setUpNumber openBlockNumber openBlockTable openEventNumber openEventTable postNumber postTable closeNumber closeTable finishNumber finishTable firstOf settingsOk ranges thresholdsOk samplesOk allLe stateOk phaseOk noMarks blockOk eventOk wordsOk mostEvent idle blank withBlock withEvent withMark withClosed blockItems endItems fillersTo eventItems timeItems channelsItems rowsOk row splice wordOf channelItems partsOf pulsesItems pulseItems integralItem timeItem pedestalItem pulsesFrom pulseAt integral sumOver total timeAt early overIn vmin vmid afterFall edgeTime n1 greatest atMost fineOf tcFrom firstOver nextTc firstFall least scan over starts falls ampAt amp
+unfolding blockHeader parameters eventHeader triggerTime triggerTimeHigh M.integral M.time M.pedestal trailer filler settingsOf setUpNumber openBlockNumber openBlockTable openEventNumber openEventTable postNumber postTable closeNumber closeTable finishNumber finishTable firstOf settingsOk ranges thresholdsOk samplesOk allLe stateOk phaseOk noMarks blockOk eventOk wordsOk mostEvent mostChannel mostRaw mostPairs pairsOf idle blank withBlock withEvent withMark withClosed blockItems endItems fillersTo eventItems timeItems channelsItems rowsOk row splice wordOf channelItems partsOf pulsesItems pulseItems integralItem timeItem pedestalItem pulsesFrom pulseAt integral sumOver total timeAt early overIn vmin vmid afterFall edgeTime n1 greatest atMost fineOf tcFrom firstOver nextTc firstFall least scan over starts falls ampAt amp
 called {a} {b} {c} {d} {e} {f} {store} {words} {words′} {words″} r =
     let s0 : a .state ≡ idle settingsA = r .setUp .state in
     let c1 : OpenBlockSays (idle settingsA) (replicate 10 0) 1 1 b words = subst (λ (s : State). OpenBlockSays s (replicate 10 0) 1 1 b words) s0 (r .openBlock) in

@@ -12,7 +12,7 @@ use Rattle.fields.specs.BytesLaws.{bytes-back}
 use Rattle.items.specs.declared.Item.{Item}
 use Rattle.reader.specs.Reader.{startOf, checkFrom}
 use Rattle.host.specs.Check.{numberOfOut, checkNumber}
-use Rattle.writer.specs.declared.State.{State}
+use Rattle.state.specs.declared.State.{State}
 use Rattle.writer.specs.declared.Finished.{Finished}
 use Rattle.writer.specs.Calls.{FinishSays}
 use Rattle.layout.specs.NothingLost.{AllWords}

@@ -16,13 +16,17 @@ use Rattle.refusals.specs.Refusal.{numberOf}
 use Rattle.finder.specs.Find.{packed}
 use Rattle.finder.specs.Call.{findTable, findNumber, foundPulses}
 use Rattle.finder.specs.RulesLaws.{find-says}
-use Rattle.writer.specs.declared.State.{State}
+use Rattle.state.specs.declared.State.{State}
 use Rattle.writer.specs.declared.Answer.{Answer}
-use Rattle.writer.specs.State.{idle, blank, withEvent}
-use Rattle.writer.specs.Calls.{ifAccepted, setUpNumber, openBlockTable, openBlockNumber, OpenBlockSays, openEventTable, openEventNumber, OpenEventSays, postTable, postNumber, PostSays, closeTable, closeNumber, CloseSays, endItems, finishTable, finishNumber}
+use Rattle.state.specs.State.{idle, blank, withEvent}
+use Rattle.writer.specs.Calls.{ifAccepted, OpenBlockSays, OpenEventSays, PostSays, CloseSays}
+use Rattle.refusing.specs.Tables.{setUpNumber, openBlockTable, openBlockNumber, openEventTable, openEventNumber, postTable, postNumber, closeTable, closeNumber, finishTable, finishNumber}
+use Rattle.block.specs.Block.{endItems}
 use Rattle.writer.specs.CallsLaws.{done, refused}
-use Rattle.host.specs.Face.{isSettings, isState, settingsFrom, stateFrom, numbersOf, onState, onSettings, orElse, blockOpened, posted, eventClosed, finishOn, inHigh, SetUpFace, OpenBlockFace, OpenEventFace, PostFace, CloseFace, FinishFace, FindFace}
-use Rattle.host.specs.BackLaws.{Loads, numbers-back, set-up-loads, open-block-loads, open-event-loads, post-loads, close-loads, finish-loads, finish-below}
+use Rattle.numbers.specs.Numbers.{isSettings, isState, settingsFrom, stateFrom, numbersOf}
+use Rattle.host.specs.Face.{onState, onSettings, orElse, blockOpened, posted, eventClosed, finishOn, inHigh, SetUpFace, OpenBlockFace, OpenEventFace, PostFace, CloseFace, FinishFace, FindFace}
+use Rattle.numbers.specs.BackLaws.{Loads, numbers-back}
+use Rattle.host.specs.LoadsLaws.{set-up-loads, open-block-loads, open-event-loads, post-loads, close-loads, finish-loads, finish-below}
 use Rattle.claims.specs.Tables.{Exactly, exactly}
 use Rattle.claims.specs.OrderLaws.{zero-or}
 use Rattle.claims.specs.FromC.{Call, SetUpCall, FinishCall, FindCall}

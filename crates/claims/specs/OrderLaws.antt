@@ -13,13 +13,15 @@ use Rattle.ground.specs.OrderLaws.{pairwise-perm, steps-perm}
 use Rattle.ground.specs.Splice.{splice}
 use Rattle.ground.specs.SpliceLaws.{length-splice, splice-comm}
 use Rattle.refusals.specs.Refusal.{numberOf}
-use Rattle.writer.specs.declared.Phase.{Phase}
-use Rattle.writer.specs.declared.Phase.the-variants as P
-use Rattle.writer.specs.declared.State.{State}
+use Rattle.state.specs.declared.Phase.{Phase}
+use Rattle.state.specs.declared.Phase.the-variants as P
+use Rattle.state.specs.declared.State.{State}
 use Rattle.writer.specs.declared.Answer.{Answer}
-use Rattle.writer.specs.State.{phaseOk, stateOk, isEvent, withMark}
-use Rattle.writer.specs.Calls.{ifAccepted, rowStart, postTable, postNumber, PostSays}
-use Rattle.writer.specs.CallsLaws.{done, refused, PostAccepted, post-accepted, row-fits}
+use Rattle.state.specs.State.{phaseOk, stateOk, isEvent, withMark}
+use Rattle.writer.specs.Calls.{ifAccepted, rowStart, PostSays}
+use Rattle.refusing.specs.Tables.{postTable, postNumber}
+use Rattle.writer.specs.CallsLaws.{done, refused, row-fits}
+use Rattle.refusing.specs.TablesLaws.{PostAccepted, post-accepted}
 use Rattle.event.specs.EventLaws.{row-end}
 use Rattle.claims.specs.Order.{Bench, Post, PostRun, none, one, Differ, Apart}
 

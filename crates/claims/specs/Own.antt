@@ -11,7 +11,7 @@ use Rattle.fields.specs.Word.{read}
 use Rattle.fields.specs.Tag.{isContinuation}
 use Rattle.settings.specs.declared.Settings.{Settings}
 use Rattle.refusals.specs.Refusal.{numberOf}
-use Rattle.writer.specs.declared.State.{State}
+use Rattle.state.specs.declared.State.{State}
 use Rattle.writer.specs.declared.Answer.{Answer}
 use Rattle.writer.specs.Calls.{OpenEventSays, CloseSays}
 use Rattle.claims.specs.Order.{Bench, Post, PostRun, Apart}

@@ -18,11 +18,12 @@ use Rattle.items.specs.declared.Item.the-variants as I
 use Rattle.channel.specs.Channel.{commonOf, channelItems}
 use Rattle.event.specs.Event.{row, timeItems, channelsItems, eventItems}
 use Rattle.event.specs.EventLaws.{row-end, channelAt, channels-step, channels-end}
-use Rattle.writer.specs.declared.State.{State}
-use Rattle.writer.specs.State.{noMarks, withEvent, withMark}
-use Rattle.writer.specs.Calls.{closingItems}
-use Rattle.writer.specs.CallsLaws.{done, open-event-accepted}
-use Rattle.writer.specs.StateLaws.{block-says}
+use Rattle.state.specs.declared.State.{State}
+use Rattle.state.specs.State.{noMarks, withEvent, withMark}
+use Rattle.refusing.specs.Tables.{closingItems}
+use Rattle.writer.specs.CallsLaws.{done}
+use Rattle.refusing.specs.TablesLaws.{open-event-accepted}
+use Rattle.state.specs.StateLaws.{block-says}
 use Rattle.claims.specs.Order.{Bench, Post, Differ, Apart}
 use Rattle.claims.specs.OrderLaws.{answerOf, after, posts, answered, zero-or, either-way, marked, left, has, after-done, after-refused, fits, number-after}
 use Rattle.claims.specs.Own.{JustOpened, windowOf}

@@ -23,9 +23,10 @@ use Rattle.records.specs.declared.answer.Next.{Next}
 use Rattle.records.specs.declared.answer.Next.the-variants as N
 use Rattle.records.specs.Next.{mostCount, partOf, startsPair, PairsMade, Made, OfRaw, nextFrom, nextAt}
 use Rattle.records.specs.NextLaws.{SaysNext, next-says}
-use Rattle.writer.specs.declared.State.{State}
+use Rattle.state.specs.declared.State.{State}
 use Rattle.writer.specs.declared.Finished.{Finished}
-use Rattle.writer.specs.Calls.{endItems, FinishSays}
+use Rattle.block.specs.Block.{endItems}
+use Rattle.writer.specs.Calls.{FinishSays}
 use Rattle.layout.specs.NothingLost.{AllWords, Spell, nothing-lost}
 use Rattle.layout.specs.FirstWrong.{placeOf, place-counts, place-small}
 use Rattle.claims.specs.Run.{Run}

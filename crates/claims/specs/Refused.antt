@@ -5,10 +5,10 @@ use mathlib.Core.Path.{_≡_, _∙_}
 use mathlib.Core.List.{List}
 use Rattle.settings.specs.declared.Settings.{Settings}
 use Rattle.refusals.specs.Refusal.{numberOf}
-use Rattle.writer.specs.declared.State.{State}
+use Rattle.state.specs.declared.State.{State}
 use Rattle.writer.specs.declared.Answer.{Answer}
 use Rattle.writer.specs.declared.Finished.{Finished}
-use Rattle.writer.specs.State.{blank}
+use Rattle.state.specs.State.{blank}
 use Rattle.writer.specs.Calls.{ifAccepted, SetUpSays, OpenBlockSays, OpenEventSays, PostSays, CloseSays, FinishSays}
 use Rattle.writer.specs.CallsLaws.{refused}
 

@@ -5,10 +5,12 @@ use mathlib.Core.Path.{_≡_}
 use mathlib.Core.List.{List, _++_}
 use Rattle.refusals.specs.Refusal.{numberOf}
 use Rattle.items.specs.declared.Item.{Item}
-use Rattle.writer.specs.declared.State.{State}
+use Rattle.state.specs.declared.State.{State}
 use Rattle.writer.specs.declared.Answer.{Answer}
 use Rattle.writer.specs.declared.Finished.{Finished}
-use Rattle.writer.specs.Calls.{blockItems, OpenBlockSays, OpenEventSays, PostSays, closingItems, CloseSays, FinishSays}
+use Rattle.block.specs.Block.{blockItems}
+use Rattle.writer.specs.Calls.{OpenBlockSays, OpenEventSays, PostSays, CloseSays, FinishSays}
+use Rattle.refusing.specs.Tables.{closingItems}
 
 pub data Run : State → List ℕ → List Item → Type 0 where
   -- an accepted opening

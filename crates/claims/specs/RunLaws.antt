@@ -24,13 +24,17 @@ use Rattle.items.specs.declared.Item.{Item}
 use Rattle.items.specs.declared.Item.the-variants as I
 use Rattle.reader.specs.RunLaws.{check-reads}
 use Rattle.reader.specs.Reader.{checkFrom, startOf, Reading, Whole, readFrom}
-use Rattle.writer.specs.declared.State.{State}
+use Rattle.state.specs.declared.State.{State}
 use Rattle.writer.specs.declared.Finished.{Finished}
-use Rattle.writer.specs.State.{blockOk, stateOk, withBlock, withEvent, withMark, withClosed}
-use Rattle.writer.specs.Calls.{ifAccepted, blockItems, openBlockNumber, openEventNumber, postNumber, closingItems, closeNumber, fillersTo, endItems, finishNumber, FinishSays}
-use Rattle.writer.specs.CallsLaws.{done, refused, OpenBlockAccepted, open-block-accepted, CloseAccepted, close-accepted, FinishAccepted, finish-accepted}
-use Rattle.writer.specs.StateLaws.{state-settings, IdleSays, idle-says, BlockSays, block-says, EventSays, event-says, trailer-fits, open-block-kept, open-event-kept, post-kept, closing-kept}
-use Rattle.writer.specs.WordsLaws.{fillers-lt}
+use Rattle.state.specs.State.{blockOk, stateOk, withBlock, withEvent, withMark, withClosed}
+use Rattle.writer.specs.Calls.{ifAccepted, FinishSays}
+use Rattle.block.specs.Block.{blockItems, fillersTo, endItems}
+use Rattle.refusing.specs.Tables.{openBlockNumber, openEventNumber, postNumber, closingItems, closeNumber, finishNumber}
+use Rattle.writer.specs.CallsLaws.{done, refused}
+use Rattle.refusing.specs.TablesLaws.{OpenBlockAccepted, open-block-accepted, CloseAccepted, close-accepted, FinishAccepted, finish-accepted}
+use Rattle.state.specs.StateLaws.{state-settings, IdleSays, idle-says, BlockSays, block-says, EventSays, event-says, trailer-fits}
+use Rattle.writer.specs.KeptLaws.{open-block-kept, open-event-kept, post-kept, closing-kept}
+use Rattle.block.specs.BlockLaws.{fillers-lt}
 use Rattle.layout.specs.Layout.{IsBlock}
 use Rattle.layout.specs.LayoutLaws.{round-trip}
 use Rattle.layout.specs.PassLaws.{both}

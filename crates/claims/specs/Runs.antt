@@ -17,7 +17,8 @@ use Rattle.channel.specs.Channel.{commonOf, channelItems}
 use Rattle.event.specs.Event.{timeItems}
 use Rattle.writer.specs.declared.Answer.{Answer}
 use Rattle.writer.specs.declared.Finished.{Finished}
-use Rattle.writer.specs.Calls.{SetUpSays, blockItems, OpenBlockSays, OpenEventSays, PostSays, CloseSays, endItems, FinishSays}
+use Rattle.writer.specs.Calls.{SetUpSays, OpenBlockSays, OpenEventSays, PostSays, CloseSays, FinishSays}
+use Rattle.block.specs.Block.{blockItems, endItems}
 use Rattle.host.specs.Check.{checkNumber}
 use Rattle.listing.specs.Listing.{listingOf}
 use Rattle.claims.specs.Bytes.{bytesOfWords, bytesOfLines}

@@ -18,7 +18,7 @@ use Rattle.records.specs.Next.{partOf}
 use Rattle.reader.specs.declared.Scan.{Scan}
 use Rattle.channel.specs.Channel.{setOf, commonOf, pulsesOf}
 use Rattle.event.specs.Event.{row}
-use Rattle.writer.specs.declared.State.{State}
+use Rattle.state.specs.declared.State.{State}
 use Rattle.claims.specs.Reads.{Reads, at-end, took}
 use Rattle.claims.specs.Run.{Run, opened, begun, posted, closed, not-closed, not-opened, not-finished}
 

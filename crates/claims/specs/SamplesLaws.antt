@@ -27,10 +27,12 @@ use Rattle.records.specs.Next.{fillerAt, AllAre, isPair, startsPair, PairsMade,
 use Rattle.channel.specs.declared.Parts.{Parts}
 use Rattle.channel.specs.Channel.{pairItems, windowItems, setOf, rawItems, integralItem, timeItem, pedestalItem, modeTable, rowOfMode, partsOf, pulseItems, pulsesItems, commonOf, pulsesOf, channelItems}
 use Rattle.event.specs.Event.{row, rowsOk, timeItems, channelsItems, eventItems}
-use Rattle.writer.specs.declared.State.{State}
+use Rattle.state.specs.declared.State.{State}
 use Rattle.writer.specs.declared.Finished.{Finished}
-use Rattle.writer.specs.Calls.{blockItems, closingItems, closeNumber, fillersTo, endItems, FinishSays}
-use Rattle.writer.specs.CallsLaws.{close-accepted}
+use Rattle.block.specs.Block.{blockItems, fillersTo, endItems}
+use Rattle.refusing.specs.Tables.{closingItems, closeNumber}
+use Rattle.writer.specs.Calls.{FinishSays}
+use Rattle.refusing.specs.TablesLaws.{close-accepted}
 use Rattle.layout.specs.PassLaws.{both}
 use Rattle.layout.specs.Grammar.{Each}
 use Rattle.claims.specs.WrittenLaws.{under-set, pairs}

@@ -18,13 +18,14 @@ use Rattle.reader.specs.declared.Step.{Step}
 use Rattle.reader.specs.declared.Judged.{Judged}
 use Rattle.reader.specs.Reader.{formAt, isEnd, refusals, refusalOf, endNumber}
 use Rattle.reader.specs.Answers.{stepNumber, judgedNumber, numberAt, StepSays, JudgedSays}
-use Rattle.writer.specs.declared.State.{State}
+use Rattle.state.specs.declared.State.{State}
 use Rattle.writer.specs.declared.Answer.{Answer}
 use Rattle.writer.specs.declared.Finished.{Finished}
-use Rattle.writer.specs.State.{stateOk}
-use Rattle.writer.specs.Calls.{ifAccepted, setUpNumber, openBlockTable, openBlockNumber, openEventTable, openEventNumber, postTable, postNumber, closeTable, closeNumber, finishTable, finishNumber, SetUpSays, OpenBlockSays, OpenEventSays, PostSays, CloseSays, FinishSays}
+use Rattle.state.specs.State.{stateOk}
+use Rattle.writer.specs.Calls.{ifAccepted, SetUpSays, OpenBlockSays, OpenEventSays, PostSays, CloseSays, FinishSays}
+use Rattle.refusing.specs.Tables.{setUpNumber, openBlockTable, openBlockNumber, openEventTable, openEventNumber, postTable, postNumber, closeTable, closeNumber, finishTable, finishNumber}
 use Rattle.writer.specs.CallsLaws.{done}
-use Rattle.writer.specs.StateLaws.{set-up-kept, open-block-kept, open-event-kept, post-kept, closing-kept, finish-kept}
+use Rattle.writer.specs.KeptLaws.{set-up-kept, open-block-kept, open-event-kept, post-kept, closing-kept, finish-kept}
 use Rattle.layout.specs.Wrong.{questions}
 
 -- ---- in the paper's order

@@ -10,7 +10,7 @@ use Rattle.finder.proofs as finder
 use Rattle.finder.specs.declared.Answer as F
 use Rattle.finder.specs.Call.{FindSays}
 use Rattle.writer.proofs as writer
-use Rattle.writer.specs.declared.State.{State}
+use Rattle.state.specs.declared.State.{State}
 use Rattle.writer.specs.declared.Answer.{Answer}
 use Rattle.writer.specs.declared.Finished.{Finished}
 use Rattle.writer.specs.Calls.{SetUpSays, OpenBlockSays, OpenEventSays, PostSays, CloseSays, FinishSays}

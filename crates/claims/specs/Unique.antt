@@ -35,6 +35,9 @@ use Rattle.finder.proofs as finder
 use Rattle.finder.specs.CallLaws as F
 use Rattle.channel.proofs as channel
 use Rattle.event.proofs as event
+use Rattle.state.proofs as state
+use Rattle.block.proofs as block
+use Rattle.refusing.proofs as refusing
 use Rattle.writer.proofs as writer
 use Rattle.writer.specs.UniqueLaws as W
 use Rattle.reader.proofs.Scan as Scan
@@ -377,6 +380,60 @@ rows-ok-unique κs a r s u v p q = by-equation p q
 pub put-event-unique : Unique event.put_event.ended event.put_event.Reads.Learnt
 put-event-unique κs a r s u v p q = by-writing (u .1) p q
 
+-- state
+pub idle-state-unique : Unique state.idle_state.ended state.idle_state.Reads.Learnt
+idle-state-unique κs a r s u v p q = by-equation p q
+
+pub no-state-unique : Unique state.no_state.ended state.no_state.Reads.Learnt
+no-state-unique κs a r s u v p q = by-equation p q
+
+pub block-ok-unique : Unique state.ranges.block_ok.ended state.ranges.block_ok.Reads.Learnt
+block-ok-unique κs a r s u v p q = by-equation p q
+
+pub event-ok-unique : Unique state.ranges.event_ok.ended state.ranges.event_ok.Reads.Learnt
+event-ok-unique κs a r s u v p q = by-equation p q
+
+pub head-words-unique : Unique state.ranges.head_words.ended state.ranges.head_words.Reads.Learnt
+head-words-unique κs a r s u v p q = by-equation p q
+
+pub state-ok-unique : Unique state.ranges.state_ok.ended state.ranges.state_ok.Reads.Learnt
+state-ok-unique κs a r s u v p q = by-equation p q
+
+pub is-idle-unique : Unique state.ranges.is_idle.ended state.ranges.is_idle.Reads.Learnt
+is-idle-unique κs a r s u v p q = by-equation p q
+
+pub is-block-unique : Unique state.ranges.is_block.ended state.ranges.is_block.Reads.Learnt
+is-block-unique κs a r s u v p q = by-equation p q
+
+pub is-event-unique : Unique state.ranges.is_event.ended state.ranges.is_event.Reads.Learnt
+is-event-unique κs a r s u v p q = by-equation p q
+
+-- block
+pub put-block-unique : Unique block.put_block.ended block.put_block.Reads.Learnt
+put-block-unique κs a r s u v p q = by-writing (u .1) p q
+
+pub put-end-unique : Unique block.put_end.ended block.put_end.Reads.Learnt
+put-end-unique κs a r s u v p q = by-writing (u .1) p q
+
+pub end-short-unique : Unique block.end_short.ended block.end_short.Reads.Learnt
+end-short-unique κs a r s u v p q = by-equation p q
+
+-- refusing
+pub open-block-check-unique : Unique refusing.«open_block_check».ended refusing.«open_block_check».Reads.Learnt
+open-block-check-unique κs a r s u v p q = (W.one-refusal r s p q, refl)
+
+pub open-event-check-unique : Unique refusing.«open_event_check».ended refusing.«open_event_check».Reads.Learnt
+open-event-check-unique κs a r s u v p q = (W.one-refusal r s p q, refl)
+
+pub post-check-unique : Unique refusing.post_check.ended refusing.post_check.Reads.Learnt
+post-check-unique κs a r s u v p q = (W.one-refusal r s p q, refl)
+
+pub close-check-unique : Unique refusing.close_check.ended refusing.close_check.Reads.Learnt
+close-check-unique κs a r s u v p q = (W.one-refusal r s p q, refl)
+
+pub finish-check-unique : Unique refusing.finish_check.ended refusing.finish_check.Reads.Learnt
+finish-check-unique κs a r s u v p q = (W.one-refusal r s p q, refl)
+
 -- writer
 pub set-up-unique : Unique writer.set_up.ended writer.set_up.Reads.Learnt
 set-up-unique κs a r s u v p q = (W.set-up-unique _ _ _ p q, refl)
@@ -453,8 +510,8 @@ pub put-line-unique : Unique text.put_line.ended text.put_line.Reads.Learnt
 put-line-unique κs a r s u v p q = by-page (u .1) p q
 
 -- lines
-pub put-block-unique : Unique lines.put_block.ended lines.put_block.Reads.Learnt
-put-block-unique κs a r s u v p q = by-page (u .1) p q
+pub lines-put-block-unique : Unique lines.put_block.ended lines.put_block.Reads.Learnt
+lines-put-block-unique κs a r s u v p q = by-page (u .1) p q
 
 pub put-setup-unique : Unique lines.put_setup.ended lines.put_setup.Reads.Learnt
 put-setup-unique κs a r s u v p q = by-page (u .1) p q
@@ -483,8 +540,8 @@ put-time-unique κs a r s u v p q = by-page (u .1) p q
 pub put-ped-unique : Unique lines.put_ped.ended lines.put_ped.Reads.Learnt
 put-ped-unique κs a r s u v p q = by-page (u .1) p q
 
-pub put-end-unique : Unique lines.put_end.ended lines.put_end.Reads.Learnt
-put-end-unique κs a r s u v p q = by-page (u .1) p q
+pub lines-put-end-unique : Unique lines.put_end.ended lines.put_end.Reads.Learnt
+lines-put-end-unique κs a r s u v p q = by-page (u .1) p q
 
 pub put-empty-unique : Unique lines.put_empty.ended lines.put_empty.Reads.Learnt
 put-empty-unique κs a r s u v p q = by-page (u .1) p q

@@ -16,7 +16,9 @@ use Rattle.state.specs.declared.State.{State}
 use Rattle.state.specs.State.{idle, withBlock, withEvent, withMark, withClosed}
 use Rattle.numbers.specs.Numbers.{stateCount, isSettings, isState, settingsFrom, stateFrom, numbersOf}
 use Rattle.items.specs.Items.{wordsOf}
-use Rattle.writer.specs.Calls.{ifAccepted, setUpNumber, blockItems, openBlockNumber, openEventNumber, postNumber, rowStart, closingItems, closeNumber, endItems, finishNumber}
+use Rattle.writer.specs.Calls.{ifAccepted, rowStart}
+use Rattle.refusing.specs.Tables.{setUpNumber, openBlockNumber, openEventNumber, postNumber, closingItems, closeNumber, finishNumber}
+use Rattle.block.specs.Block.{blockItems, endItems}
 
 -- ---- the calls; `r` is the number that C gets, `n` the state's numbers, `n′` those after the call
 

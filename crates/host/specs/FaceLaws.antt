@@ -19,7 +19,9 @@ use Rattle.state.specs.State.{idle, blank, withBlock, withEvent, withMark, with
 use Rattle.state.specs.StateLaws.{blank-out}
 use Rattle.writer.specs.declared.Answer.{Answer}
 use Rattle.writer.specs.declared.Finished.{Finished}
-use Rattle.writer.specs.Calls.{ifAccepted, setUpNumber, SetUpSays, blockItems, openBlockTable, openBlockNumber, OpenBlockSays, openEventTable, openEventNumber, OpenEventSays, postTable, postNumber, rowStart, PostSays, closingItems, closeTable, closeNumber, CloseSays, endItems, finishTable, finishNumber, FinishSays}
+use Rattle.writer.specs.Calls.{ifAccepted, SetUpSays, OpenBlockSays, OpenEventSays, rowStart, PostSays, CloseSays, FinishSays}
+use Rattle.refusing.specs.Tables.{setUpNumber, openBlockTable, openBlockNumber, openEventTable, openEventNumber, postTable, postNumber, closingItems, closeTable, closeNumber, finishTable, finishNumber}
+use Rattle.block.specs.Block.{blockItems, endItems}
 use Rattle.writer.specs.CallsLaws.{done}
 use Rattle.numbers.specs.Numbers.{settingsCount, headCount, stateCount, isSettings, isState, settingsFrom, stateFrom, settingsIn, stateIn, settingsNumbers, headOf, numbersOf, headStored, stateStored}
 use Rattle.numbers.specs.NumbersLaws.{settings-count, state-count, state-settings-held}

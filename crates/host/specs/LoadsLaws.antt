@@ -14,10 +14,10 @@ use Rattle.refusals.specs.declared.Refusal.the-variants as R
 use Rattle.state.specs.declared.State.{State}
 use Rattle.state.specs.State.{stateOk, idle, withBlock, withEvent, withMark, withClosed}
 use Rattle.state.specs.StateLaws.{state-settings, trailer-fits}
-use Rattle.writer.specs.Calls.{endItems}
-use Rattle.writer.specs.CallsLaws.{finish-accepted}
+use Rattle.block.specs.Block.{endItems}
+use Rattle.refusing.specs.TablesLaws.{finish-accepted}
 use Rattle.writer.specs.KeptLaws.{open-block-kept, open-event-kept, post-kept, closing-kept, finish-kept, set-up-kept}
-use Rattle.writer.specs.WordsLaws.{end-length, multiple-positive, fillers-lt}
+use Rattle.block.specs.BlockLaws.{end-length, multiple-positive, fillers-lt}
 use Rattle.numbers.specs.Numbers.{headCount, isSettings, isState, settingsFrom, table, marksFrom, stateFrom, numbersOf}
 use Rattle.numbers.specs.NumbersLaws.{state-settings-held}
 use Rattle.numbers.specs.BackLaws.{Loads, state-back}

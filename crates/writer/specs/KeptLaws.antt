@@ -12,9 +12,10 @@ use Rattle.event.specs.EventLaws.{length-event, event-least, event-most}
 use Rattle.state.specs.declared.State.{State}
 use Rattle.state.specs.State.{stateOk, idle, withBlock, withEvent, withMark, withClosed}
 use Rattle.state.specs.StateLaws.{state-settings, idle-kept, block-kept, event-kept, mark-kept, close-kept}
-use Rattle.writer.specs.Calls.{setUpNumber, blockItems, openBlockNumber, openEventNumber, postNumber, closingItems, closeNumber, finishNumber}
-use Rattle.writer.specs.CallsLaws.{set-up-accepted, open-block-accepted, open-event-accepted, post-accepted, close-accepted, finish-accepted}
-use Rattle.writer.specs.WordsLaws.{block-length}
+use Rattle.block.specs.Block.{blockItems}
+use Rattle.block.specs.BlockLaws.{block-length}
+use Rattle.refusing.specs.Tables.{setUpNumber, openBlockNumber, openEventNumber, postNumber, closingItems, closeNumber, finishNumber}
+use Rattle.refusing.specs.TablesLaws.{set-up-accepted, open-block-accepted, open-event-accepted, post-accepted, close-accepted, finish-accepted}
 
 pub set-up-kept : (s : Settings) → setUpNumber s ≡ 0 → stateOk (idle s) ≡ true
 set-up-kept s e = idle-kept s (set-up-accepted s e)

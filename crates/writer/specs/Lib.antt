@@ -1,7 +1,5 @@
 pub mod Calls
 pub mod CallsLaws
 pub mod KeptLaws
-pub mod WordsLaws
+pub mod CloseLaws
 pub mod UniqueLaws
-pub mod Order
-pub mod CodeLaws

@@ -13,7 +13,7 @@ use Rattle.writer.specs.declared.Finished.{Finished}
 use Rattle.writer.specs.Calls.{SetUpSays, OpenBlockSays, OpenEventSays, PostSays, CloseSays, FinishSays}
 
 -- a refusal said by its number, and an answer by its refusal and its state
-one-refusal : (a b : Refusal) {number : ℕ} → numberOf a ≡ number → numberOf b ≡ number → a ≡ b
+pub one-refusal : (a b : Refusal) {number : ℕ} → numberOf a ≡ number → numberOf b ≡ number → a ≡ b
 one-refusal a b p q = number-inj a b (one-result p q)
 
 one-answer : (a b : Answer) {number : ℕ} {state : State} → numberOf (a .refusal) ≡ number → numberOf (b .refusal) ≡ number

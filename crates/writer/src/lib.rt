@@ -3,7 +3,6 @@ ghost use mathlib.Core.Path.{_≡_};
 ghost use Rattle.writer.specs.Calls.{SetUpSays, OpenBlockSays, OpenEventSays, PostSays, CloseSays, FinishSays};
 
 mod put;
-mod refuse;
 
 use refusals::Refusal;
 use settings::Settings;
@@ -45,10 +44,10 @@ pub fn set_up(settings: Settings) -> Answer
 pub fn open_block(state: State, words: &mut [u32], number: u32, events: u32) -> Answer
     ensures { λ r. ⌜ OpenBlockSays state (now (words .entry)) number events r (now (words .exit)) ⌝ }
 {
-    let refusal = refuse::open_block_check(state, words.len(), number, events);
+    let refusal = refusing::open_block_check(state, words.len(), number, events);
     if refusals::accepted(refusal) {
         let settings = state.settings;
-        let next = put::put_block(words, state.words, settings, number, events);
+        let next = block::put_block(words, state.words, settings, number, events);
         let opened = State {
             settings,
             phase: Phase::Block,
@@ -72,7 +71,7 @@ pub fn open_block(state: State, words: &mut [u32], number: u32, events: u32) -> 
 pub fn open_event(state: State, number: u32, time: u64) -> Answer
     ensures { λ r. ⌜ OpenEventSays state number time r ⌝ }
 {
-    let refusal = refuse::open_event_check(state, number, time);
+    let refusal = refusing::open_event_check(state, number, time);
     if refusals::accepted(refusal) {
         let settings = state.settings;
         let posted = state.posted;
@@ -99,7 +98,7 @@ pub fn open_event(state: State, number: u32, time: u64) -> Answer
 pub fn post(state: State, store: &mut [u16], channel: usize, window: &[u16]) -> Answer
     ensures { λ r. ⌜ PostSays state (now (store .entry)) channel (now (window .entry)) r (now (store .exit)) ⌝ }
 {
-    let refusal = refuse::post_check(state, store.len(), channel, window);
+    let refusal = refusing::post_check(state, store.len(), channel, window);
     if refusals::accepted(refusal) {
         let settings = state.settings;
         let nw = settings.nw;
@@ -120,7 +119,7 @@ pub fn post(state: State, store: &mut [u16], channel: usize, window: &[u16]) -> 
 pub fn close(state: State, store: &[u16], words: &mut [u32]) -> Answer
     ensures { λ r. ⌜ CloseSays state (now (store .entry)) (now (words .entry)) r (now (words .exit)) ⌝ }
 {
-    let refusal = refuse::close_check(state, store);
+    let refusal = refusing::close_check(state, store);
     if !refusals::accepted(refusal) {
         return Answer { refusal, state };
     }
@@ -156,10 +155,10 @@ pub fn close(state: State, store: &[u16], words: &mut [u32]) -> Answer
 pub fn finish(state: State, words: &mut [u32]) -> Finished
     ensures { λ r. ⌜ FinishSays state (now (words .entry)) r (now (words .exit)) ⌝ }
 {
-    let refusal = refuse::finish_check(state, words.len());
+    let refusal = refusing::finish_check(state, words.len());
     if refusals::accepted(refusal) {
         let settings = state.settings;
-        let length = put::put_end(words, state.words, settings);
+        let length = block::put_end(words, state.words, settings);
         let idle = state::idle_state(settings);
         return Finished {
             refusal,

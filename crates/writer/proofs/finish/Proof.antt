@@ -1,13 +1,15 @@
 -- `writer::finish` meets its contract. Assumes nothing.
+use Prim.Native.Nat.{_-_, _^_}
 use mathlib.Core.Path.{sym, _∙_}
 use native.Mathlib.Omega.{arith}
 use borrow.Author.Needs.{needs}
-use borrow.Author.Tests.{eqb-true}
+use borrow.Author.Tests.{eqb-true, lt-ltb}
 use lib.ListN.{length}
-use Rattle.state.specs.StateLaws.{state-settings, trailer-fits}
-use Rattle.writer.specs.CallsLaws.{FinishAccepted, finish-accepted}
-use Rattle.writer.specs.Calls.{endItems}
-use Rattle.writer.specs.WordsLaws.{next-place}
+use Rattle.state.specs.StateLaws.{trailer-fits}
+use Rattle.refusing.specs.TablesLaws.{FinishAccepted, finish-accepted}
+use Rattle.block.specs.Block.{endItems}
+use Rattle.items.specs.ItemsLaws.{put-written}
+use Rattle.writer.specs.CallsLaws.{next-place}
 use Rattle.writer.proofs.finish.Statement.{statement}
 use Rattle.writer.proofs.finish.Tie as tie
 
@@ -15,22 +17,20 @@ use Rattle.writer.proofs.finish.Tie as tie
 known : (c : tie.Then1) → let a = c .before .before .before .before .args in FinishAccepted (a .state) (length (a .words .now))
 known c = finish-accepted _ _ (sym (c .before .before .finish-check .ensures) ∙ eqb-true _ 0 (sym (c .before .accepted .ensures) ∙ c .if1 .taken))
 
-put-end-requires : tie.Need-put-end-requires
-put-end-requires c κs =
-    let k = known (c .before .before) in
-    (state-settings _ (k .state), omega (arith, trailer-fits _ (k .state)), k .fit)
-
 returns : tie.Need-returns
 returns c =
-    let written = c .before .before .before .put-end .ensures in
     let t = c .before .before .before .before .before .before in
     let a = t .before .before .before .before .args in
+    let k = known t in
+    let items = endItems (a .state .settings) (a .state .words) in
+    let counts = lt-ltb (a .state .words) (2 ^ 22 - 1) (omega (arith, trailer-fits _ (k .state))) in
+    let written = put-written items counts (k .fit) (c .before .before .before .put-end .ensures) in
     let number = t .before .before .finish-check .ensures in
     let yes = sym (t .before .accepted .ensures) ∙ t .if1 .taken in
     record {
       refusal = number;
       state = rw (← number, yes) (c .idle-state .ensures);
-      size = rw (← number, yes) (next-place (endItems (a .state .settings) (a .state .words)) written);
+      size = rw (← number, yes) (next-place items written);
       buffer = rw (← number, yes) (written .words);
     }
 
@@ -46,7 +46,7 @@ finish-spec =
     (tie.spec
     (λ c κs. search needs)
     (λ c κs. search needs)
-    put-end-requires
+    (λ c κs. tt)
     (λ c κs. search needs)
     (λ c. search needs)
     returns

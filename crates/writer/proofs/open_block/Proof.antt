@@ -5,9 +5,10 @@ use borrow.Author.Tests.{eqb-true}
 use lib.ListN.{length}
 use Rattle.state.specs.State.{withBlock}
 use Rattle.state.specs.StateLaws.{state-settings}
-use Rattle.writer.specs.CallsLaws.{OpenBlockAccepted, open-block-accepted}
-use Rattle.writer.specs.Calls.{blockItems}
-use Rattle.writer.specs.WordsLaws.{next-place}
+use Rattle.refusing.specs.TablesLaws.{OpenBlockAccepted, open-block-accepted}
+use Rattle.block.specs.Block.{blockItems}
+use Rattle.items.specs.ItemsLaws.{put-written}
+use Rattle.writer.specs.CallsLaws.{next-place}
 use Rattle.writer.proofs.open_block.Statement.{statement}
 use Rattle.writer.proofs.open_block.Tie as tie
 
@@ -15,22 +16,19 @@ use Rattle.writer.proofs.open_block.Tie as tie
 known : (c : tie.Then1) → let a = c .before .before .before .before .args in OpenBlockAccepted (a .state) (length (a .words .now)) (a .number) (a .events)
 known c = open-block-accepted _ _ _ _ (sym (c .before .before .open-block-check .ensures) ∙ eqb-true _ 0 (sym (c .before .accepted .ensures) ∙ c .if1 .taken))
 
-put-block-requires : tie.Need-put-block-requires
-put-block-requires c κs =
-    let k = known (c .before .before) in
-    (state-settings _ (k .state), k .fit)
-
 returns : tie.Need-returns
 unfolding withBlock
 returns c =
-    let written = c .before .before .put-block .ensures in
     let t = c .before .before .before .before .before in
     let a = t .before .before .before .before .args in
+    let k = known t in
+    let items = blockItems (a .state .settings) (a .number) (a .events) in
+    let written = put-written items (state-settings _ (k .state)) (k .fit) (c .before .before .put-block .ensures) in
     let number = t .before .before .open-block-check .ensures in
     let yes = sym (t .before .accepted .ensures) ∙ t .if1 .taken in
     record {
       refusal = number;
-      state = rw (← number, yes) (ap (withBlock (a .state) (a .number) (a .events)) (next-place (blockItems (a .state .settings) (a .number) (a .events)) written));
+      state = rw (← number, yes) (ap (withBlock (a .state) (a .number) (a .events)) (next-place items written));
       buffer = rw (← number, yes) (written .words);
     }
 
@@ -46,7 +44,7 @@ open-block-spec =
     (tie.spec
     (λ c κs. search needs)
     (λ c κs. search needs)
-    put-block-requires
+    (λ c κs. tt)
     (λ c. search needs)
     returns
     returns-2)

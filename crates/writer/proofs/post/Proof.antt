@@ -8,7 +8,8 @@ use lib.ListN.{length, length-take, length-drop}
 use Rattle.ground.specs.SpliceLaws.{part-splice}
 use Rattle.state.specs.State.{withMark}
 use Rattle.writer.specs.Calls.{rowStart}
-use Rattle.writer.specs.CallsLaws.{PostAccepted, post-accepted, row-fits}
+use Rattle.refusing.specs.TablesLaws.{PostAccepted, post-accepted}
+use Rattle.writer.specs.CallsLaws.{row-fits}
 use Rattle.writer.proofs.post.Statement.{statement}
 use Rattle.writer.proofs.post.Tie as tie
 

@@ -4,7 +4,7 @@ use mathlib.Core.Bool.{true, false}
 use borrow.Author.Needs.{needs}
 use Rattle.ground.specs.Tests.{firstOf}
 use Rattle.settings.specs.Ranges.{settingsOk}
-use Rattle.writer.specs.Calls.{setUpNumber}
+use Rattle.refusing.specs.Tables.{setUpNumber}
 use Rattle.writer.proofs.set_up.Statement.{statement}
 use Rattle.writer.proofs.set_up.Tie as tie
 

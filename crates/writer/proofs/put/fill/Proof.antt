@@ -1,39 +1,30 @@
--- `writer::put::fill` meets its contract. The invariant: the first i samples of the window stand in the row. Assumes nothing.
-use Prim.Native.Nat.{ℕ, _+_, _<_, _-_}
-use mathlib.Core.Path.{_≡_, refl, _∙_, ap, sym}
-use mathlib.Core.List.{List}
+-- `writer::put::fill` meets its contract: a copy over the whole of the row. Assumes nothing.
+use Prim.Native.Nat.{_-_}
+use mathlib.Core.Path.{sym, _∙_}
 use native.Mathlib.Nat.{zero-add}
 use native.Mathlib.Omega.{arith}
 use borrow.Author.Needs.{needs}
-use lib.ListN.{length, take, set, getD, length-set}
-use lib.Seq.{take-all}
-use Rattle.ground.specs.Splice.{splice}
-use Rattle.ground.specs.SpliceLaws.{splice-nil, splice-take, splice-all}
+use lib.ListN.{length}
+use Rattle.ground.specs.CopyLaws.{Copied, copy-start, copy-turn, copy-end}
+use Rattle.ground.specs.SpliceLaws.{splice-all}
 use Rattle.writer.proofs.put.fill.Statement.{statement}
 use Rattle.writer.proofs.put.fill.Tie as tie
 
 abbrev Inv-loop : tie.InvT-loop
-Inv-loop row₀ window i₀ row i = (length row ≡ length row₀) × (row ≡ splice row₀ 0 (take i window))
+Inv-loop row₀ window i₀ row i = Copied row₀ 0 window row i
 
 abbrev μ-loop : tie.MeasureT-loop
 μ-loop row₀ window i₀ row i = length window - i
 
 loop-again : tie.Need-loop-again Inv-loop μ-loop
 loop-again c =
-    let at = c .before .before in
-    let window = at .before .args .window .now in
-    let row = at .before .args .row .now in
-    let i = at .loop .i in
-    let k : 0 + i < length row = omega arith in (
-      simp length-set (at .loop .inv .0),
-      ap (λ (d : List ℕ). set d i (getD window i 0)) (at .loop .inv .1) ∙ rw zero-add at (splice-take row 0 window i 0 k (omega arith)),
-    )
+    let turn = c .before .before in
+    copy-turn (turn .loop .inv) (turn .loop .i) 0 (sym (zero-add _)) (c .before .loop-test .taken) (omega arith)
 
 returns : tie.Need-returns Inv-loop μ-loop
 returns c =
-    let window = c .before .before .args .window .now in
-    let row = c .before .before .args .row .now in
-    c .before .loop .inv .1 ∙ rw (take-all (c .before .loop .i) window (c .loop-test .left)) (splice-all row window (sym (c .before .before .pre)))
+    let a = c .before .before .args in
+    copy-end (c .before .loop .inv) (c .loop-test .left) ∙ splice-all (a .row .now) (a .window .now) (sym (c .before .before .pre))
 
 pub fill-spec : {M : Type 1} → statement M
 fill-spec =
@@ -41,7 +32,7 @@ fill-spec =
     (tie.spec
     Inv-loop
     μ-loop
-    (λ c. (refl, sym (splice-nil _ 0)))
+    (λ c. copy-start _ _ _)
     (λ c. search needs)
     (λ c. search needs)
     (λ c. search needs)

@@ -1,0 +1,130 @@
+// Which refusal a call is given: the rows of its table are asked in the paper's order, and none that an earlier one makes needless.
+ghost use mathlib.Core.Path.{_≡_};
+ghost use Prim.Native.Nat.{_*_};
+ghost use lib.Dec.{ltb};
+ghost use Rattle.refusals.specs.Refusal.{numberOf};
+ghost use Rattle.refusing.specs.Tables.{openBlockNumber, openEventNumber, postNumber, beforeRoom, finishNumber};
+use block::end_short;
+use items::put::room_short;
+use refusals::Refusal;
+use state::State;
+use state::ranges::block_ok;
+use state::ranges::event_ok;
+use state::ranges::head_words;
+use state::ranges::is_block;
+use state::ranges::is_event;
+use state::ranges::is_idle;
+use state::ranges::state_ok;
+
+// Fewer than 16 rows of `nw` samples. The quotient cannot wrap, whatever a forged state says.
+fn store_short(room: usize, nw: usize) -> bool
+    ensures { λ r. ⌜ r ≡ ltb room (16 * nw) ⌝ }
+{
+    room / 16 < nw
+}
+
+pub fn open_block_check(s: State, room: usize, number: u32, events: u32) -> Refusal
+    ensures { λ r. ⌜ numberOf r ≡ openBlockNumber s room number events ⌝ }
+{
+    let phase = s.phase;
+    let settings = s.settings;
+    if !state_ok(s) {
+        return Refusal::State;
+    }
+    if !is_idle(phase) {
+        return Refusal::Turn;
+    }
+    if !block_ok(number, events) {
+        return Refusal::Number;
+    }
+    if room_short(room, s.words, head_words(settings.parameters)) {
+        return Refusal::Room;
+    }
+    Refusal::None
+}
+
+pub fn open_event_check(s: State, number: u32, time: u64) -> Refusal
+    ensures { λ r. ⌜ numberOf r ≡ openEventNumber s number time ⌝ }
+{
+    let phase = s.phase;
+    if !state_ok(s) {
+        return Refusal::State;
+    }
+    if !is_block(phase) | !(s.closed < s.events) {
+        return Refusal::Turn;
+    }
+    if !event_ok(number, time) {
+        return Refusal::Number;
+    }
+    Refusal::None
+}
+
+// The window's samples are looked at last.
+pub fn post_check(s: State, room: usize, channel: usize, window: &[u16]) -> Refusal
+    ensures { λ r. ⌜ numberOf r ≡ postNumber s room channel (now (window .entry)) ⌝ }
+{
+    let phase = s.phase;
+    let settings = s.settings;
+    let posted = s.posted;
+    if !state_ok(s) {
+        return Refusal::State;
+    }
+    if !is_event(phase) {
+        return Refusal::Turn;
+    }
+    if 15 < channel {
+        return Refusal::Channel;
+    }
+    if window.len() != settings.nw {
+        return Refusal::Length;
+    }
+    if posted[channel] {
+        return Refusal::Posted;
+    }
+    if store_short(room, settings.nw) {
+        return Refusal::Store;
+    }
+    if !samples::samples_ok(window) {
+        return Refusal::Sample;
+    }
+    Refusal::None
+}
+
+// All that a close asks but the room. The rows are looked at only once the store is known to hold them.
+pub fn close_check(s: State, store: &[u16]) -> Refusal
+    ensures { λ r. ⌜ numberOf r ≡ beforeRoom s (now (store .entry)) ⌝ }
+{
+    let phase = s.phase;
+    let settings = s.settings;
+    let posted = s.posted;
+    if !state_ok(s) {
+        return Refusal::State;
+    }
+    if !is_event(phase) {
+        return Refusal::Turn;
+    }
+    if store_short(store.len(), settings.nw) {
+        return Refusal::Store;
+    }
+    if !event::rows_ok(settings, &posted, store) {
+        return Refusal::Sample;
+    }
+    Refusal::None
+}
+
+pub fn finish_check(s: State, room: usize) -> Refusal
+    ensures { λ r. ⌜ numberOf r ≡ finishNumber s room ⌝ }
+{
+    let phase = s.phase;
+    let settings = s.settings;
+    if !state_ok(s) {
+        return Refusal::State;
+    }
+    if !is_block(phase) | (s.closed != s.events) {
+        return Refusal::Turn;
+    }
+    if end_short(room, s.words, settings) {
+        return Refusal::Room;
+    }
+    Refusal::None
+}
