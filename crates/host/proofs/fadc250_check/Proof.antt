@@ -24,18 +24,18 @@ abbrev μ-loop : tie.MeasureT-loop
 
 -- the run at the word that was read
 stepped : (c : tie.After-step Inv-loop μ-loop) {t : Step} → c .step .result ≡ t →
-    let l = c .before .before .before .before .before .before .before .loop in
-    let bytes = c .before .before .before .before .before .before .before .before .before .before .before .args .bytes .now in
+    let l = c .before .before .before .loop in
+    let bytes = c .before .before .before .before .before .before .before .args .bytes .now in
     checkFrom startOf (wordsOfBytes bytes) ≡ onStep t (l .scan .place) (λ u. checkFrom u (wordsOfBytes (drop (l .at + 4) bytes)))
 stepped c e =
-    let l = c .before .before .before .before .before .before .before .loop in
-    let bytes = c .before .before .before .before .before .before .before .before .before .before .before .args .bytes .now in
+    let l = c .before .before .before .loop in
+    let bytes = c .before .before .before .before .before .before .before .args .bytes .now in
     l .inv .1
-    ∙ run-at bytes (l .at) (l .scan) (omega arith) (c .step .ensures .answer ∙ ap (stepAt (l .scan)) (c .before .of-bytes .ensures)) e
+    ∙ run-at bytes (l .at) (l .scan) (omega arith) (c .step .ensures .answer ∙ ap (stepAt (l .scan)) (c .before .word-at .ensures)) e
 
 -- the bytes are whole words
-whole : (c : tie.After-step Inv-loop μ-loop) → length (c .before .before .before .before .before .before .before .before .before .before .before .args .bytes .now) % 4 ≡ 0
-whole c = c .before .before .before .before .before .before .before .before .before .if1 .left
+whole : (c : tie.After-step Inv-loop μ-loop) → length (c .before .before .before .before .before .before .before .args .bytes .now) % 4 ≡ 0
+whole c = c .before .before .before .before .before .if1 .left
 
 returns : tie.Need-returns Inv-loop μ-loop
 unfolding checkNumber
@@ -63,6 +63,9 @@ returns-4 c =
     ∙ out-number (endNumber (l .scan)) (l .scan .place)
     ∙ checked bytes (c .before .before .before .before .before .if1 .left) (l .inv .1 ∙ ap (λ (x : List ℕ). checkFrom (l .scan) (wordsOfBytes x)) (drop-of-length-le bytes {i = l .at} (omega arith)) ∙ end-by (l .scan))
 
+word-at-requires : tie.Need-word-at-requires Inv-loop μ-loop
+word-at-requires c κs = omega arith
+
 pub fadc250-check-spec : {M : Type 1} → statement M
 fadc250-check-spec =
     tie.close
@@ -74,14 +77,7 @@ fadc250-check-spec =
     returns
     (λ c κs. search needs)
     loop-holds
-    (λ c. search needs)
-    (λ c. search needs)
-    (λ c. search needs)
-    (λ c. search needs)
-    (λ c. search needs)
-    (λ c. search needs)
-    (λ c. search needs)
-    (λ c κs. search needs)
+    word-at-requires
     (λ c κs. search needs)
     (λ c. search needs)
     (λ c. search needs)
