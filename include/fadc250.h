@@ -5,7 +5,7 @@
    fadc250_find looks for the pulses of one window.
 
    No function allocates, keeps anything between two calls or touches anything that was not lent to it. All that a run knows is in the
-   state, 34 numbers that the host keeps, may copy and may hand to another thread. Every array goes with its length in elements; the
+   state, FADC250_STATE numbers that the host keeps, may copy and may hand to another thread. Every array goes with its length in elements; the
    arrays of one call must not overlap. A length may be 0, and the pointer must then still not be NULL.
 
    Every call answers a number: 0 it is accepted, else why it is refused. A refused call changes nothing that was lent. If a call is to
@@ -23,7 +23,7 @@ extern "C" {
 /* The refusals. */
 enum fadc250_refusal {
     FADC250_ACCEPTED = 0,
-    FADC250_BAD_SETTING = 1,  /* set up, find: not 26 settings, or one that is out of its range */
+    FADC250_BAD_SETTING = 1,  /* set up, find: not FADC250_SETTINGS settings, or one that is out of its range */
     FADC250_SHORT_STORE = 2,  /* post, close: the store has fewer than 16 * NW samples */
     FADC250_BAD_SAMPLE = 3,   /* post, find: a sample of the window is over 8191; close: one in a posted channel's row of the store is */
     FADC250_BAD_CHANNEL = 4,  /* post, find: the channel is over 15 */
@@ -31,8 +31,8 @@ enum fadc250_refusal {
     FADC250_POSTED = 6,       /* post: the channel was already posted in this event */
     FADC250_OUT_OF_TURN = 7,  /* not the phase for this call; an event more than the block states; finish before the last of them */
     FADC250_BAD_NUMBER = 8,   /* block number over 1023, events not 1 to 255, event number over 4194303, time over 2^48 - 1 */
-    FADC250_SHORT_WORDS = 9,  /* the word buffer is too short for all that the call writes; find: fewer than 28 numbers are lent */
-    FADC250_BAD_STATE = 10    /* not 34 numbers, or not numbers that a call can have left */
+    FADC250_SHORT_WORDS = 9,  /* the word buffer is too short for all that the call writes; find: fewer than FADC250_FOUND numbers are lent */
+    FADC250_BAD_STATE = 10    /* not FADC250_STATE numbers, or not numbers that a call can have left */
 };
 
 /* The places of the settings. */
@@ -48,11 +48,11 @@ enum fadc250_setting {
     FADC250_TIMES = 8,      /* trigger-time words of an event, 0, 1 or 2 */
     FADC250_MULTIPLE = 9,   /* a block is filled to a multiple of 1, 2 or 4 words */
     FADC250_THRESHOLDS = 10, /* sixteen, channel c's at FADC250_THRESHOLDS + c, each 0 to 4095 */
-    FADC250_SETTINGS = 26   /* how many they are */
+    FADC250_SETTINGS = FADC250_THRESHOLDS + 16 /* how many they are */
 };
 
-/* The places of the state, behind which the settings stand. Only fadc250_set_up writes the settings; the other calls change the first
-   eight. The host may read them; a state that it changes itself is refused with 10 if it breaks the ranges. */
+/* The places of the state, behind which the settings stand. Only fadc250_set_up writes the settings; the other calls change those
+   before them. The host may read all; a state that it changes itself is refused with 10 if it breaks the ranges. */
 enum fadc250_place {
     FADC250_PHASE = 0,          /* 0 idle, 1 in a block, 2 in an event */
     FADC250_BLOCK = 1,          /* the open block's number */
@@ -63,7 +63,7 @@ enum fadc250_place {
     FADC250_CLOSED = 6,         /* events closed in this block */
     FADC250_WORDS = 7,          /* words written to it */
     FADC250_STATE_SETTINGS = 8, /* setting i stands at FADC250_STATE_SETTINGS + i */
-    FADC250_STATE = 34          /* how many numbers a state is */
+    FADC250_STATE = FADC250_STATE_SETTINGS + FADC250_SETTINGS /* how many numbers a state is */
 };
 
 /* The places of what fadc250_find writes: the count, then FADC250_PULSE numbers a pulse, pulse p's from 1 + p * FADC250_PULSE. */
@@ -77,12 +77,12 @@ enum fadc250_pulse {
     FADC250_PULSE_VMIN = 6,
     FADC250_PULSE_VPEAK = 7,  /* 0 if the time is only TC */
     FADC250_PULSE_RULE = 8,   /* which rule gave the time: 1, 2, 3 TC only; 4 interpolated */
-    FADC250_PULSE = 9,
-    FADC250_FOUND = 28        /* how many numbers it writes */
+    FADC250_PULSE = 9,        /* how many numbers a pulse has */
+    FADC250_FOUND = 1 + 3 * FADC250_PULSE /* how many numbers it writes */
 };
 
-/* Sets up a run: n settings (26), and the m numbers (34) of the state to be filled. Their old values do not matter.
-   Refusals, in this order: 1; 10 if m is not 34. */
+/* Sets up a run: n settings (FADC250_SETTINGS), and the m numbers (FADC250_STATE) of the state to be filled. Their old values do
+   not matter. Refusals, in this order: 1; 10 if m is not FADC250_STATE. */
 uint32_t fadc250_set_up(const uint64_t *settings, size_t n, uint64_t *state, size_t m);
 
 /* Opens a block with its number and how many events it is to hold. Writes the block header and any parameter word to words[0] and
@@ -104,8 +104,9 @@ uint32_t fadc250_close(uint64_t *state, size_t m, const uint16_t *store, size_t 
    Answers the block's length in words, fillers counted, or (refusal << 32), which is never a length. Refusals: 10, 7, 9. */
 uint64_t fadc250_finish(uint64_t *state, size_t m, uint32_t *words, size_t w);
 
-/* Finds the pulses of a window of len samples, whatever the mode, with the threshold of that channel: n settings (26) and o numbers
-   (28 or more) to be filled; numbers past the 28th stay, and those of pulses past the count are set to 0, the rule too.
+/* Finds the pulses of a window of len samples, whatever the mode, with the threshold of that channel: n settings (FADC250_SETTINGS)
+   and o numbers (FADC250_FOUND or more) to be filled; numbers past FADC250_FOUND stay, and those of pulses past the count are set
+   to 0, the rule too.
    Refusals, in this order: 1, 4, 5, 3, 9. */
 uint32_t fadc250_find(const uint64_t *settings, size_t n, uint32_t channel, const uint16_t *window, size_t len, uint32_t *out, size_t o);
 

@@ -78,5 +78,5 @@ channelWords s t c w = wordsOf (channelItems s t c w)
 
 -- a proof that computes opens this file and what it leans on by one name
 unfoldable pub allOpen : Unit {0}
-unfolding windowItems setOf rawItems integralItem timeItem pedestalItem partsOf pulseItems pulsesItems channelItems Rattle.search.specs.Search.allOpen Rattle.finder.specs.Find.allOpen Rattle.items.specs.Items.allOpen
+unfolding windowItems partsOf pulsesItems channelItems Rattle.search.specs.Search.allOpen Rattle.finder.specs.Find.allOpen Rattle.items.specs.Items.allOpen Rattle.pulse.specs.Pulse.allOpen
 allOpen = tt

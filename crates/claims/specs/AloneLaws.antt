@@ -14,7 +14,7 @@ use Rattle.fields.specs.Word.{fieldAt}
 use Rattle.fields.specs.Tag.{isContinuation}
 use Rattle.settings.specs.declared.Settings.{Settings}
 use Rattle.finder.specs.declared.Pulse.{Pulse}
-use Rattle.finder.specs.Find.{anyOver}
+use Rattle.search.specs.Search.{anyOver}
 use Rattle.framing.specs.Words as W
 use Rattle.raw.specs.declared.pair.SamplePair.{SamplePair}
 use Rattle.raw.specs.Words as R
@@ -23,8 +23,10 @@ use Rattle.items.specs.Items.{wordOf, wordsOf}
 use Rattle.items.specs.ItemsLaws.{length-words, words-append}
 use Rattle.items.specs.declared.Item.{Item}
 use Rattle.items.specs.declared.Item.the-variants as I
-use Rattle.channel.specs.declared.Parts.{Parts}
-use Rattle.channel.specs.Channel.{pairItems, windowItems, setOf, rawItems, integralItem, timeItem, pedestalItem, partsOf, pulseItems, pulsesItems, Common, commonOf, pulsesOf, channelItems, channelWords}
+use Rattle.pulse.specs.declared.Parts.{Parts}
+use Rattle.pairs.specs.Pairs.{pairItems}
+use Rattle.channel.specs.Channel.{windowItems, partsOf, pulsesItems, Common, commonOf, pulsesOf, channelItems, channelWords}
+use Rattle.pulse.specs.Pulse.{setOf, rawItems, integralItem, timeItem, pedestalItem, pulseItems}
 use Rattle.event.specs.Event.{timeItems}
 use Rattle.state.specs.declared.State.{State}
 use Rattle.state.specs.State.{withClosed}

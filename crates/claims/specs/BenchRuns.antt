@@ -8,7 +8,8 @@ use lib.ListN.{getD, take, set, replicate}
 use Rattle.ground.specs.Splice.{splice}
 use Rattle.settings.specs.declared.Settings.{Settings}
 use Rattle.find.specs.Call.{findNumber, foundPulses}
-use Rattle.reader.specs.Reader.{Whole, startOf, Reading, readFrom}
+use Rattle.reader.specs.Reader.{Whole, Reading, readFrom}
+use Rattle.scan.specs.After.{startOf}
 use Rattle.reader.specs.RunLaws.{check-reads}
 use Rattle.channel.specs.Channel.{commonOf, channelItems}
 use Rattle.state.specs.declared.State.{State}

@@ -9,15 +9,16 @@ use Rattle.ground.specs.Order.{Perm}
 use Rattle.refusals.specs.Refusal.{numberOf}
 use Rattle.items.specs.declared.Item.{Item}
 use Rattle.channel.specs.Channel.{commonOf, channelWords}
-use Rattle.reader.specs.Reader.{startOf}
+use Rattle.scan.specs.After.{startOf}
 use Rattle.state.specs.declared.State.{State}
 use Rattle.writer.specs.declared.Finished.{Finished}
 use Rattle.writer.specs.Calls.{OpenEventSays, CloseSays, FinishSays}
 use Rattle.block.specs.Block.{endItems}
 use Rattle.writer.specs.CallsLaws.{done}
 use Rattle.host.specs.Check.{checkNumber}
-use Rattle.host.specs.Face.{isState, table, marksFrom, stateFrom, numbersOf, onState, FinishFace}
-use Rattle.host.specs.BackLaws.{Loads, numbers-back}
+use Rattle.numbers.specs.Numbers.{isState, table, marksFrom, stateFrom, numbersOf}
+use Rattle.host.specs.Face.{onState, FinishFace}
+use Rattle.numbers.specs.BackLaws.{Loads, numbers-back}
 use Rattle.claims.specs.Order.{Bench, Post, PostRun, Apart}
 use Rattle.claims.specs.Order as P
 use Rattle.claims.specs.OrderLaws.{order}

@@ -10,7 +10,8 @@ use Rattle.refusals.specs.Refusal.{numberOf}
 use Rattle.fields.specs.Bytes.{wordsOfBytes}
 use Rattle.fields.specs.BytesLaws.{bytes-back}
 use Rattle.items.specs.declared.Item.{Item}
-use Rattle.reader.specs.Reader.{startOf, checkFrom}
+use Rattle.scan.specs.After.{startOf}
+use Rattle.reader.specs.Reader.{checkFrom}
 use Rattle.host.specs.Check.{numberOfOut, checkNumber}
 use Rattle.state.specs.declared.State.{State}
 use Rattle.writer.specs.declared.Finished.{Finished}

@@ -6,7 +6,7 @@ use lib.Dec.{ltb}
 use Rattle.fields.specs.Word.{read}
 use Rattle.finder.specs.declared.Pulse.{Pulse}
 use Rattle.items.specs.Items.{wordOf}
-use Rattle.channel.specs.Channel.{integralItem, timeItem, pedestalItem}
+use Rattle.pulse.specs.Pulse.{integralItem, timeItem, pedestalItem}
 
 -- "18-0" holds "min(sum, 524,287)", "20-19 quality" is "1 if the sum was greater, else 0"
 pub record IntegralEnds (word sum : ℕ) : Type 0 where

@@ -9,15 +9,15 @@ use Rattle.settings.specs.declared.Settings.{Settings}
 use Rattle.finder.specs.declared.Pulse.{Pulse}
 use Rattle.finder.specs.Find.{pulsesFrom, noPulse}
 use Rattle.finder.specs.RangeLaws.{PulseFits, fits-at, pulses-fit, pulses-count}
-use Rattle.finder.specs.Call.{findNumber, channelPulses}
-use Rattle.finder.specs.CallLaws.{Accepted, accepted}
+use Rattle.find.specs.Call.{findNumber, channelPulses}
+use Rattle.find.specs.CallLaws.{Accepted, accepted}
 use Rattle.measures.specs.declared.integral.PulseIntegral.{PulseIntegral}
 use Rattle.measures.specs.declared.pedestal.PulsePedestal.{PulsePedestal}
 use Rattle.measures.specs.declared.time.PulseTime.{PulseTime}
 use Rattle.measures.specs.Words.{integralOf, timeOf, pedestalOf}
 use Rattle.measures.specs.WordsLaws.{integral-there, time-there, pedestal-there}
 use Rattle.items.specs.Items.{wordOf, fits}
-use Rattle.channel.specs.Channel.{integralItem, timeItem, pedestalItem}
+use Rattle.pulse.specs.Pulse.{integralItem, timeItem, pedestalItem}
 use Rattle.claims.specs.WrittenLaws.{integral-made, time-made, pedestal-made}
 use Rattle.claims.specs.FieldEnds.{PulseEnds}
 

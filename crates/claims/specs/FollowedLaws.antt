@@ -10,7 +10,8 @@ use lib.Dec.{eqb, ltb}
 use lib.ListN.{length, length-append}
 use Rattle.fields.specs.Bytes.{bytesOf, wordsOfBytes}
 use Rattle.items.specs.declared.Item.{Item}
-use Rattle.reader.specs.Reader.{startOf, Out, Whole, Broken, Reading, readFrom, checkFrom}
+use Rattle.scan.specs.After.{startOf}
+use Rattle.reader.specs.Reader.{Out, Whole, Broken, Reading, readFrom, checkFrom}
 use Rattle.reader.specs.RunLaws.{check-reads}
 use Rattle.host.specs.Check.{numberOfOut, checkNumber}
 use Rattle.text.specs.Line.{Line, textOf}

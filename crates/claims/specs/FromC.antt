@@ -7,16 +7,17 @@ use lib.ListN.{take, drop}
 use Rattle.ground.specs.Splice.{splice}
 use Rattle.settings.specs.declared.Settings.{Settings}
 use Rattle.refusals.specs.Refusal.{numberOf}
-use Rattle.finder.specs.declared.Answer as A
-use Rattle.finder.specs.Call.{FindSays}
+use Rattle.writer.specs.declared.Answer as A
+use Rattle.find.specs.Call.{FindSays}
 use Rattle.items.specs.declared.Item.{Item}
 use Rattle.writer.specs.declared.Answer.{Answer}
 use Rattle.writer.specs.declared.Finished.{Finished}
 use Rattle.writer.specs.Calls.{ifAccepted, SetUpSays, FinishSays}
 use Rattle.block.specs.Block.{blockItems}
 use Rattle.refusing.specs.Tables.{closingItems}
-use Rattle.host.specs.Face.{isState, settingsFrom, stateFrom, inHigh, foundNumbers, OpenBlockFace, OpenEventFace, PostFace, CloseFace, FinishFace}
-use Rattle.host.specs.BackLaws.{Loads}
+use Rattle.numbers.specs.Numbers.{isState, settingsFrom, stateFrom}
+use Rattle.host.specs.Face.{inHigh, foundNumbers, OpenBlockFace, OpenEventFace, PostFace, CloseFace, FinishFace}
+use Rattle.numbers.specs.BackLaws.{Loads}
 use Rattle.claims.specs.Run.{Run}
 use Rattle.claims.specs.Order.{Post, Apart}
 use Rattle.claims.specs.Own.{ofChannel}

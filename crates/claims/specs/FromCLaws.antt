@@ -14,8 +14,8 @@ use Rattle.refusals.specs.declared.Refusal.the-variants as F
 use Rattle.settings.specs.Ranges.{settingsOk}
 use Rattle.refusals.specs.Refusal.{numberOf}
 use Rattle.finder.specs.Find.{packed}
-use Rattle.finder.specs.Call.{findTable, findNumber, foundPulses}
-use Rattle.finder.specs.RulesLaws.{find-says}
+use Rattle.find.specs.Call.{findTable, findNumber, foundPulses}
+use Rattle.find.specs.RulesLaws.{find-says}
 use Rattle.state.specs.declared.State.{State}
 use Rattle.writer.specs.declared.Answer.{Answer}
 use Rattle.state.specs.State.{idle, blank, withEvent}
@@ -23,8 +23,10 @@ use Rattle.writer.specs.Calls.{ifAccepted, OpenBlockSays, OpenEventSays, PostSa
 use Rattle.refusing.specs.Tables.{setUpNumber, openBlockTable, openBlockNumber, openEventTable, openEventNumber, postTable, postNumber, closeTable, closeNumber, finishTable, finishNumber}
 use Rattle.block.specs.Block.{endItems}
 use Rattle.writer.specs.CallsLaws.{done, refused}
-use Rattle.host.specs.Face.{isSettings, isState, settingsFrom, stateFrom, numbersOf, onState, onSettings, orElse, blockOpened, posted, eventClosed, finishOn, inHigh, SetUpFace, OpenBlockFace, OpenEventFace, PostFace, CloseFace, FinishFace, FindFace}
-use Rattle.host.specs.BackLaws.{Loads, numbers-back, set-up-loads, open-block-loads, open-event-loads, post-loads, close-loads, finish-loads, finish-below}
+use Rattle.numbers.specs.Numbers.{isSettings, isState, settingsFrom, stateFrom, numbersOf}
+use Rattle.host.specs.Face.{onState, onSettings, orElse, blockOpened, posted, eventClosed, finishOn, inHigh, SetUpFace, OpenBlockFace, OpenEventFace, PostFace, CloseFace, FinishFace, FindFace}
+use Rattle.numbers.specs.BackLaws.{Loads, numbers-back}
+use Rattle.host.specs.LoadsLaws.{set-up-loads, open-block-loads, open-event-loads, post-loads, close-loads, finish-loads, finish-below}
 use Rattle.claims.specs.Tables.{Exactly, exactly}
 use Rattle.claims.specs.OrderLaws.{zero-or}
 use Rattle.claims.specs.FromC.{Call, SetUpCall, FinishCall, FindCall}

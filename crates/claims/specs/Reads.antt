@@ -6,8 +6,8 @@ use mathlib.Core.List.{List, [], _++_}
 use lib.ListN.{drop}
 use Rattle.items.specs.Items.{wordsOf}
 use Rattle.items.specs.declared.Item.{Item}
-use Rattle.reader.specs.Reader.{onward}
-use Rattle.reader.specs.declared.Scan.{Scan}
+use Rattle.scan.specs.After.{onward}
+use Rattle.scan.specs.declared.Scan.{Scan}
 use Rattle.rawitems.specs.declared.Pairs.{Pairs}
 use Rattle.records.specs.declared.answer.Record.{Record}
 use Rattle.records.specs.declared.answer.Next.the-variants as N

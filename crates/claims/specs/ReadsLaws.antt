@@ -13,9 +13,10 @@ use Rattle.raw.specs.declared.pair.SamplePair.{SamplePair}
 use Rattle.items.specs.Items.{wordOf, wordsOf, formOf, cleanOf}
 use Rattle.items.specs.declared.Item.{Item}
 use Rattle.items.specs.declared.Item.the-variants as I
-use Rattle.reader.specs.Reader.{onward, Whole, Broken, Out, startOf, Reading, readFrom}
+use Rattle.scan.specs.After.{onward, startOf}
+use Rattle.reader.specs.Reader.{Whole, Broken, Out, Reading, readFrom}
 use Rattle.reader.specs.RunLaws.{before}
-use Rattle.reader.specs.declared.Scan.{Scan}
+use Rattle.scan.specs.declared.Scan.{Scan}
 use Rattle.rawitems.specs.declared.Pairs.{Pairs}
 use Rattle.records.specs.declared.answer.Record.{Record}
 use Rattle.records.specs.declared.answer.Record.the-variants as R

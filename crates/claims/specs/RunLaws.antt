@@ -23,7 +23,8 @@ use Rattle.items.specs.ItemsLaws.{length-words, words-append}
 use Rattle.items.specs.declared.Item.{Item}
 use Rattle.items.specs.declared.Item.the-variants as I
 use Rattle.reader.specs.RunLaws.{check-reads}
-use Rattle.reader.specs.Reader.{checkFrom, startOf, Reading, Whole, readFrom}
+use Rattle.reader.specs.Reader.{checkFrom, Reading, Whole, readFrom}
+use Rattle.scan.specs.After.{startOf}
 use Rattle.state.specs.declared.State.{State}
 use Rattle.writer.specs.declared.Finished.{Finished}
 use Rattle.state.specs.State.{blockOk, stateOk, withBlock, withEvent, withMark, withClosed}

@@ -9,10 +9,11 @@ use lib.ListN.{length, getD, set, replicate}
 use Rattle.settings.specs.declared.Settings.{Settings}
 use Rattle.finder.specs.declared.Pulse.{Pulse}
 use Rattle.finder.specs.Find as F
-use Rattle.finder.specs.Call.{findNumber, foundPulses}
+use Rattle.find.specs.Call.{findNumber, foundPulses}
 use Rattle.items.specs.declared.Item.{Item}
 use Rattle.items.specs.declared.Item.the-variants as I
-use Rattle.reader.specs.Reader.{Whole, startOf, readFrom}
+use Rattle.reader.specs.Reader.{Whole, readFrom}
+use Rattle.scan.specs.After.{startOf}
 use Rattle.channel.specs.Channel.{commonOf, channelItems}
 use Rattle.event.specs.Event.{timeItems}
 use Rattle.writer.specs.declared.Answer.{Answer}

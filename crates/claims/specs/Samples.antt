@@ -9,14 +9,15 @@ use Rattle.ground.specs.Tests.{oneOf}
 use Rattle.fields.specs.Word.{read}
 use Rattle.settings.specs.declared.Settings.{Settings}
 use Rattle.finder.specs.declared.Pulse.{Pulse}
-use Rattle.finder.specs.Find.{anyOver}
+use Rattle.search.specs.Search.{anyOver}
 use Rattle.items.specs.declared.Item.{Item}
 use Rattle.items.specs.declared.Item.the-variants as I
 use Rattle.records.specs.declared.answer.Record.{Record}
 use Rattle.records.specs.declared.answer.Record.the-variants as R
 use Rattle.rawitems.specs.Pairs.{partOf}
-use Rattle.reader.specs.declared.Scan.{Scan}
-use Rattle.channel.specs.Channel.{setOf, commonOf, pulsesOf}
+use Rattle.scan.specs.declared.Scan.{Scan}
+use Rattle.pulse.specs.Pulse.{setOf}
+use Rattle.channel.specs.Channel.{commonOf, pulsesOf}
 use Rattle.event.specs.Event.{row}
 use Rattle.state.specs.declared.State.{State}
 use Rattle.claims.specs.Reads.{Reads, at-end, took}

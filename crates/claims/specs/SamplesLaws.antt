@@ -12,21 +12,23 @@ use Rattle.settings.specs.declared.Settings.{Settings}
 use Rattle.refusals.specs.Refusal.{numberOf}
 use Rattle.samples.specs.Sample.{samplesOk}
 use Rattle.finder.specs.declared.Pulse.{Pulse}
-use Rattle.finder.specs.Find.{anyOver}
+use Rattle.search.specs.Search.{anyOver}
 use Rattle.raw.specs.declared.pair.SamplePair.{SamplePair}
 use Rattle.raw.specs.Words.{pair, pairOf}
 use Rattle.raw.specs.WordsLaws.{pair-there}
 use Rattle.items.specs.Items.{wordOf, wordsOf, itemIf}
 use Rattle.items.specs.declared.Item.{Item}
 use Rattle.items.specs.declared.Item.the-variants as I
-use Rattle.reader.specs.declared.Scan.{Scan}
+use Rattle.scan.specs.declared.Scan.{Scan}
 use Rattle.rawitems.specs.declared.Pairs.{Pairs}
 use Rattle.records.specs.declared.answer.Record.{Record}
 use Rattle.records.specs.declared.answer.Record.the-variants as R
 use Rattle.rawitems.specs.Pairs.{partOf}
 use Rattle.records.specs.Next.{fillerAt, AllAre, isPair, startsPair, PairsMade, Made, OfRaw}
-use Rattle.channel.specs.declared.Parts.{Parts}
-use Rattle.channel.specs.Channel.{pairItems, windowItems, setOf, rawItems, integralItem, timeItem, pedestalItem, modeTable, rowOfMode, partsOf, pulseItems, pulsesItems, commonOf, pulsesOf, channelItems}
+use Rattle.pulse.specs.declared.Parts.{Parts}
+use Rattle.pairs.specs.Pairs.{pairItems}
+use Rattle.channel.specs.Channel.{windowItems, modeTable, rowOfMode, partsOf, pulsesItems, commonOf, pulsesOf, channelItems}
+use Rattle.pulse.specs.Pulse.{setOf, rawItems, integralItem, timeItem, pedestalItem, pulseItems}
 use Rattle.event.specs.Event.{row, rowsOk, timeItems, channelsItems, eventItems}
 use Rattle.state.specs.declared.State.{State}
 use Rattle.writer.specs.declared.Finished.{Finished}

@@ -11,12 +11,14 @@ use Rattle.ground.specs.TestsLaws.{first-is, is-first}
 use Rattle.settings.specs.declared.Settings.{Settings}
 use Rattle.settings.specs.Ranges.{settingsOk}
 use Rattle.refusals.specs.Refusal.{numberOf}
-use Rattle.finder.specs.Call.{findTable, findNumber, FindSays}
-use Rattle.finder.specs.declared.Answer as A
-use Rattle.reader.specs.declared.Scan.{Scan}
+use Rattle.find.specs.Call.{findTable, findNumber, FindSays}
+use Rattle.writer.specs.declared.Answer as A
+use Rattle.scan.specs.declared.Scan.{Scan}
 use Rattle.reader.specs.declared.Step.{Step}
 use Rattle.reader.specs.declared.Judged.{Judged}
-use Rattle.reader.specs.Reader.{formAt, isEnd, refusals, refusalOf, endNumber}
+use Rattle.reader.specs.Reader.{formAt, endNumber}
+use Rattle.scan.specs.Meaning.{isEnd}
+use Rattle.questions.specs.Questions.{refusals, refusalOf}
 use Rattle.reader.specs.Answers.{stepNumber, judgedNumber, numberAt, StepSays, JudgedSays}
 use Rattle.state.specs.declared.State.{State}
 use Rattle.writer.specs.declared.Answer.{Answer}

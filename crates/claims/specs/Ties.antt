@@ -7,18 +7,19 @@ use contract.Lifetimes.{Lfts}
 use denote.Ref.{RefT, now}
 use Rattle.settings.specs.declared.Settings.{Settings}
 use Rattle.finder.proofs as finder
-use Rattle.finder.specs.declared.Answer as F
-use Rattle.finder.specs.Call.{FindSays}
+use Rattle.writer.specs.declared.Answer as F
+use Rattle.find.specs.Call.{FindSays}
 use Rattle.writer.proofs as writer
 use Rattle.state.specs.declared.State.{State}
 use Rattle.writer.specs.declared.Answer.{Answer}
 use Rattle.writer.specs.declared.Finished.{Finished}
 use Rattle.writer.specs.Calls.{SetUpSays, OpenBlockSays, OpenEventSays, PostSays, CloseSays, FinishSays}
 use Rattle.reader.proofs as reader
-use Rattle.reader.specs.declared.Scan.{Scan}
+use Rattle.scan.specs.declared.Scan.{Scan}
 use Rattle.reader.specs.declared.Step.{Step}
 use Rattle.reader.specs.declared.Judged.{Judged}
-use Rattle.reader.specs.Reader.{startOf, endNumber}
+use Rattle.scan.specs.After.{startOf}
+use Rattle.reader.specs.Reader.{endNumber}
 use Rattle.reader.specs.Answers.{StepSays, JudgedSays}
 use Rattle.rawitems.proofs as rawitems
 use Rattle.records.proofs as records

@@ -32,7 +32,7 @@ use Rattle.refusals.proofs as refusals
 use Rattle.samples.proofs as samples
 use Rattle.settings.proofs as settings
 use Rattle.finder.proofs as finder
-use Rattle.finder.specs.CallLaws as F
+use Rattle.find.specs.CallLaws as F
 use Rattle.channel.proofs as channel
 use Rattle.event.proofs as event
 use Rattle.state.proofs as state
@@ -43,6 +43,7 @@ use Rattle.writer.specs.UniqueLaws as W
 use Rattle.reader.proofs.Scan as Scan
 use Rattle.rawitems.proofs as rawitems
 use Rattle.records.proofs as records
+use Rattle.numbers.proofs as numbers
 use Rattle.host.proofs as host
 use Rattle.host.specs.UniqueLaws as H
 use Rattle.text.proofs as text
@@ -483,6 +484,26 @@ fadc250-check-unique κs a r s u v p q = by-equation p q
 
 -- ---- from C
 
+-- numbers
+pub is-settings-unique : Unique numbers.held.is_settings.ended numbers.held.is_settings.Reads.Learnt
+is-settings-unique κs a r s u v p q = by-equation p q
+
+pub is-state-unique : Unique numbers.held.is_state.ended numbers.held.is_state.Reads.Learnt
+is-state-unique κs a r s u v p q = by-equation p q
+
+pub settings-in-unique : Unique numbers.load.settings_in.ended numbers.load.settings_in.Reads.Learnt
+settings-in-unique κs a r s u v p q = by-equation p q
+
+pub state-in-unique : Unique numbers.load.state_in.ended numbers.load.state_in.Reads.Learnt
+state-in-unique κs a r s u v p q = by-equation p q
+
+pub put-head-unique : Unique numbers.store.put_head.ended numbers.store.put_head.Reads.Learnt
+put-head-unique κs a r s u v p q = (refl, λ i. (one-result p q i, u .1))
+
+pub put-state-unique : Unique numbers.store.put_state.ended numbers.store.put_state.Reads.Learnt
+put-state-unique κs a r s u v p q = (refl, λ i. (one-result p q i, u .1))
+
+-- host
 pub fadc250-set-up-unique : Unique host.calls.fadc250_set_up.ended host.calls.fadc250_set_up.Reads.Learnt
 fadc250-set-up-unique κs a r s u v p q = let e = H.set-up-face-unique _ _ _ _ _ _ p q in (e .0, λ i. (tt, (e .1 i, tt)))
 

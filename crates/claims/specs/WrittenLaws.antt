@@ -13,7 +13,7 @@ use Rattle.settings.specs.Ranges.{settingsOk}
 use Rattle.settings.specs.RangesLaws.{InRange, settings-in-range}
 use Rattle.samples.specs.Sample.{samplesOk}
 use Rattle.finder.specs.declared.Pulse.{Pulse}
-use Rattle.finder.specs.Find.{anyOver}
+use Rattle.search.specs.Search.{anyOver}
 use Rattle.finder.specs.RangeLaws.{PulseFits, EachFits, pulses-fit, pulses-count}
 use Rattle.framing.specs.Words as W
 use Rattle.raw.specs.declared.pair.SamplePair.{SamplePair}
@@ -22,9 +22,11 @@ use Rattle.measures.specs.Words as M
 use Rattle.items.specs.Items.{fits}
 use Rattle.items.specs.declared.Item.{Item}
 use Rattle.items.specs.declared.Item.the-variants as I
-use Rattle.channel.specs.declared.Parts.{Parts}
-use Rattle.channel.specs.Channel.{pairItems, windowItems, setOf, rawItems, integralItem, timeItem, pedestalItem, partsOf, pulseItems, pulsesItems, commonOf, pulsesOf, channelItems}
-use Rattle.channel.specs.InnerLaws.{length-set}
+use Rattle.pulse.specs.declared.Parts.{Parts}
+use Rattle.pairs.specs.Pairs.{pairItems}
+use Rattle.channel.specs.Channel.{windowItems, partsOf, pulsesItems, commonOf, pulsesOf, channelItems}
+use Rattle.pulse.specs.Pulse.{setOf, rawItems, integralItem, timeItem, pedestalItem, pulseItems}
+use Rattle.pulse.specs.PulseLaws.{length-set}
 use Rattle.event.specs.Event.{row, rowsOk, timeItems, channelsItems, eventItems}
 use Rattle.event.specs.EventLaws.{row-end}
 use Rattle.layout.specs.PassLaws.{both}

@@ -6,8 +6,8 @@ use mathlib.Core.List.{List, _∷_}
 use lib.Dec.{eqb}
 use lib.ListN.{length}
 use Rattle.fields.specs.Bytes.{wordsOfBytes}
-use Rattle.reader.specs.declared.Scan.{Scan}
-use Rattle.reader.specs.Reader.{startOf}
+use Rattle.scan.specs.declared.Scan.{Scan}
+use Rattle.scan.specs.After.{startOf}
 use Rattle.records.specs.declared.answer.Record.{Record}
 use Rattle.records.specs.declared.answer.Next.the-variants as N
 use Rattle.records.specs.Next.{nextAt}

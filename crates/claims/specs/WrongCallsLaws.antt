@@ -12,8 +12,9 @@ use lib.Seq.{drop-drop}
 use Rattle.ground.specs.Tests.{firstOf}
 use Rattle.fields.specs.Bytes.{wordsOfBytes}
 use Rattle.items.specs.declared.Item.{Item}
-use Rattle.reader.specs.declared.Scan.{Scan}
-use Rattle.reader.specs.Reader.{startOf, Out, Whole, Broken, outOf, Reading, readFrom, checkFrom}
+use Rattle.scan.specs.declared.Scan.{Scan}
+use Rattle.scan.specs.After.{startOf}
+use Rattle.reader.specs.Reader.{Out, Whole, Broken, outOf, Reading, readFrom, checkFrom}
 use Rattle.reader.specs.RunLaws.{before, check-reads}
 use Rattle.records.specs.declared.answer.Next.the-variants as N
 use Rattle.records.specs.Next.{nextAt}

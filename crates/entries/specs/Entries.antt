@@ -62,3 +62,8 @@ fillerIn (I.Time r) = 0
 fillerIn (I.Pedestal r) = 0
 fillerIn (I.Empty r) = 0
 fillerIn (I.Filler r) = 1
+
+-- a proof that computes opens this file and what it leans on by one name
+unfoldable pub allOpen : Unit {0}
+unfolding Rattle.text.specs.Line.allOpen Rattle.lines.specs.Lines.allOpen
+allOpen = tt

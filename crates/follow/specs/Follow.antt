@@ -54,3 +54,8 @@ onFiller S.Ended n t go = record { count = n; scan = t }
 unfoldable pub fillFrom : ℕ → Scan → List ℕ → Fill
 fillFrom n t [] = record { count = n; scan = t }
 fillFrom n t (word ∷ words) = onFiller (stepAt t word) n t (λ u. fillFrom (onward n) u words)
+
+-- a proof that computes opens this file and what it leans on by one name
+unfoldable pub allOpen : Unit {0}
+unfolding highFrom fillFrom Rattle.scan.specs.After.allOpen Rattle.reader.specs.Reader.allOpen
+allOpen = tt

@@ -7,16 +7,14 @@ use native.Mathlib.Omega.{arith}
 use borrow.Author.Tests.{eqb-true, eq-eqb}
 use lib.Dec.{eqb}
 use lib.ListN.{length, getD, drop}
-use Rattle.fields.specs.Bytes.{wordOfBytes, wordsOfBytes}
-use Rattle.reader.specs.Reader.{Out, Whole, Broken, startOf, outOf, onStep, stepAt, checkFrom}
+use Rattle.fields.specs.Bytes.{wordsOfBytes}
+use Rattle.reader.specs.Reader.{Out, Whole, Broken, outOf, onStep, stepAt, checkFrom}
+use Rattle.scan.specs.After.{startOf}
 use Rattle.reader.specs.RunLaws.{cons-at, check-at}
-use Rattle.reader.specs.declared.Scan.{Scan}
+use Rattle.scan.specs.declared.Scan.{Scan}
 use Rattle.reader.specs.declared.Step.{Step}
 use Rattle.host.specs.Check.{numberOfOut, checkNumber}
-
--- the word of the four bytes from i on
-abbrev pub wordAt : List ℕ → ℕ → ℕ
-wordAt bytes i = wordOfBytes (getD bytes i 0) (getD bytes (i + 1) 0) (getD bytes (i + 2) 0) (getD bytes (i + 3) 0)
+use Rattle.host.specs.Inner.{wordAt}
 
 words-at : (bytes : List ℕ) (i : ℕ) → i + 4 ≤ length bytes → wordsOfBytes (drop i bytes) ≡ wordAt bytes i ∷ wordsOfBytes (drop (i + 4) bytes)
 words-at bytes i h = ap wordsOfBytes four

@@ -1,222 +1,244 @@
--- The numbers that a call leaves are those of the state that it gives, and each call's statement allows one result. Assumes nothing.
-use Prim.Native.Nat.{ℕ, zero, suc, _+_, _*_, _^_, _≤_}
+-- The numbers that a call leaves are those of the state that it gives. Assumes nothing.
+use Prim.Native.Nat.{ℕ, _+_, _*_, _^_}
 use mathlib.Core.Path.{_≡_, refl, sym, ap, ap₂, _∙_}
-use mathlib.Core.Bool.{Bool, true, false, cond, true≢false}
-use mathlib.Core.List.{List, _∷_, _++_}
+use mathlib.Core.Bool.{Bool, true, false, cond}
+use mathlib.Core.List.{List, _++_}
 use native.Mathlib.Omega.{arith}
-use native.Mathlib.Numerals.{add-one}
 use borrow.Author.Tests.{eq-eqb, ne-eqb, eqb-true}
 use lib.Dec.{eqb}
-use lib.ListN.{length, getD, drop}
-use lib.Seq.{drop-cons}
+use lib.ListN.{length, drop}
+use Rattle.ground.specs.Splice.{splice}
+use Rattle.ground.specs.Tests.{firstOf}
 use Rattle.settings.specs.declared.Settings.{Settings}
+use Rattle.settings.specs.Ranges.{ranges, settingsOk}
 use Rattle.refusals.specs.Refusal.{numberOf}
+use Rattle.refusals.specs.declared.Refusal.the-variants as R
 use Rattle.items.specs.Items.{wordsOf}
-use Rattle.writer.specs.declared.Answer.{Answer}
-use Rattle.writer.specs.declared.Finished.{Finished}
 use Rattle.state.specs.declared.State.{State}
 use Rattle.state.specs.State.{idle, blank, withBlock, withEvent, withMark, withClosed}
+use Rattle.state.specs.StateLaws.{blank-out}
+use Rattle.writer.specs.declared.Answer.{Answer}
+use Rattle.writer.specs.declared.Finished.{Finished}
 use Rattle.writer.specs.Calls.{ifAccepted, SetUpSays, OpenBlockSays, OpenEventSays, rowStart, PostSays, CloseSays, FinishSays}
-use Rattle.refusing.specs.Tables.{setUpNumber, openBlockNumber, openEventNumber, postNumber, closingItems, closeNumber, finishNumber}
+use Rattle.refusing.specs.Tables.{setUpNumber, openBlockTable, openBlockNumber, openEventTable, openEventNumber, postTable, postNumber, closingItems, closeTable, closeNumber, finishTable, finishNumber}
 use Rattle.block.specs.Block.{blockItems, endItems}
 use Rattle.writer.specs.CallsLaws.{done}
-use Rattle.ground.specs.Splice.{splice}
-use Rattle.host.specs.Face.{settingsLimits, isSettings, isState, settingsFrom, stateFrom, table, bitOf, settingsNumbers, headOf, numbersOf, onState, onSettings, orElse, blockOpened, posted, eventClosed, finishOn, inHigh, SetUpFace, OpenBlockFace, OpenEventFace, PostFace, CloseFace, FinishFace}
+use Rattle.numbers.specs.Numbers.{settingsCount, headCount, stateCount, isSettings, isState, settingsFrom, stateFrom, settingsIn, stateIn, settingsNumbers, headOf, numbersOf, headStored, stateStored}
+use Rattle.numbers.specs.NumbersLaws.{settings-count, state-count, state-settings-held}
+use Rattle.numbers.specs.StoreLaws.{head-over}
+use Rattle.numbers.specs.BackLaws.{settings-back}
+use Rattle.host.specs.Face.{onState, onSettings, orElse, blockOpened, posted, eventClosed, finishOn, inHigh, SetUpFace, OpenBlockFace, OpenEventFace, PostFace, CloseFace, FinishFace}
 use Rattle.host.specs.Inner.{Kept}
-use Rattle.host.specs.NumbersLaws.{held-at, settings-26, state-settings-held}
-
--- ---- settings, loaded and stored
-
--- k numbers from place i, and the rest
-pub from-place : (m : List ℕ) (k i : ℕ) → i + k ≤ length m → drop i m ≡ table (λ j. getD m j 0) k i ++ drop (i + k) m
-unfolding table
-from-place m zero i h = let e : i ≡ i + 0 = omega arith in ap (λ (j : ℕ). drop j m) e
-from-place m (suc k) i h =
-    let e : i + 1 + k ≡ i + suc k = omega arith in
-    drop-cons m i 0 (omega arith)
-    ∙ ap (λ (l : List ℕ). getD m i 0 ∷ l) (ap (λ (j : ℕ). drop j m) (sym (add-one i)) ∙ from-place m k (i + 1) (omega arith) ∙ ap (λ (j : ℕ). table (λ j. getD m j 0) k (i + 1) ++ drop j m) e)
-
-pub bit-back : (x : ℕ) → x ≤ 1 → bitOf (eqb x 1) ≡ x
-bit-back x h = go (eqb x 1) refl
-  where
-    go : (b : Bool) → eqb x 1 ≡ b → bitOf b ≡ x
-    go true e = sym (eqb-true x 1 e)
-    go false e = omega (arith, not-one)
-      where
-        not-one : x ≡ 1 → ⊥
-        not-one f = absurd (true≢false (sym (eq-eqb x 1 f) ∙ e))
-
-pub settings-back : (m : List ℕ) → isSettings m ≡ true → settingsNumbers (settingsFrom m) ≡ m
-unfolding isSettings settingsLimits settingsNumbers settingsFrom table
-settings-back m e =
-    let at = getD m in
-    ap (λ (x : ℕ). at 0 0 ∷ at 1 0 ∷ at 2 0 ∷ at 3 0 ∷ at 4 0 ∷ at 5 0 ∷ at 6 0 ∷ x ∷ at 8 0 ∷ at 9 0 ∷ drop 10 m) (bit-back (at 7 0) (held-at settingsLimits m e 7))
-    ∙ sym (from-place m 10 0 (omega (arith, settings-26 m e)))
 
 -- the head of a state with these settings, over the numbers
-head-numbers : (n : List ℕ) (s : State) → isState n ≡ true → s .settings ≡ stateFrom n .settings → headOf s ++ drop 8 n ≡ numbersOf s
+head-numbers : (n : List ℕ) (s : State) → isState n ≡ true → s .settings ≡ stateFrom n .settings → headStored n s ≡ numbersOf s
 unfolding numbersOf stateFrom
-head-numbers n s e f = ap (λ (l : List ℕ). headOf s ++ l) (sym (ap settingsNumbers f ∙ settings-back (drop 8 n) (state-settings-held n e)))
+head-numbers n s e f =
+    head-over n s (omega (arith, state-count n e))
+    ∙ ap (λ (l : List ℕ). headOf s ++ l) (sym (ap settingsNumbers f ∙ settings-back (drop headCount n) (state-settings-held n e)))
 
--- ---- a call on a state: its number, the numbers after it, and what was lent
+-- ---- a call on a state: its number, the numbers after it, and what was lent; numbers that are no state are refused as what stands for none
 
-module _ (n : List ℕ) (number : State → ℕ) {s : State} {r : ℕ} where
-  call-number : isState n ≡ true → s ≡ stateFrom n → r ≡ number s → r ≡ onState n (number (stateFrom n))
-  call-number e f g = rw e (g ∙ ap number f)
+module _ (n : List ℕ) (number : State → ℕ) (none : number blank ≡ numberOf R.State) {s : State} {r : ℕ} (f : s ≡ stateIn n) (g : r ≡ number s) where
+  call-number : r ≡ onState n (number (stateFrom n))
+  call-number = g ∙ ap number f ∙ go (isState n)
+    where
+      go : (b : Bool) → number (cond b (stateFrom n) blank) ≡ cond b (number (stateFrom n)) (numberOf R.State)
+      go true = refl
+      go false = none
 
-  call-lent : {A : Type 0} (new : State → A) (old : A) {left : A} → s ≡ stateFrom n → r ≡ number s → left ≡ ifAccepted (number s) (new s) old
-      → left ≡ ifAccepted r (new (stateFrom n)) old
-  call-lent new old f g h = h ∙ ap₂ (λ (k : ℕ) (x : State). ifAccepted k (new x) old) (sym g) f
+  call-lent : {A : Type 0} (new : State → A) (old : A) {left : A} → left ≡ ifAccepted (number s) (new s) old → left ≡ ifAccepted r (new (stateFrom n)) old
+  call-lent new old h = h ∙ ap₂ (λ (k : ℕ) (x : State). ifAccepted k (new x) old) (sym g) f ∙ go (isState n) (g ∙ ap number f)
+    where
+      go : (b : Bool) → r ≡ number (cond b (stateFrom n) blank) → ifAccepted r (new (cond b (stateFrom n) blank)) old ≡ ifAccepted r (new (stateFrom n)) old
+      go true p = refl
+      go false p = rw (p ∙ none)
 
   call-numbers : (new : State → State) {u : State} {n′ : List ℕ} → ((x : State) → new x .settings ≡ x .settings)
-      → isState n ≡ true → s ≡ stateFrom n → r ≡ number s → u ≡ ifAccepted (number s) (new s) s → n′ ≡ ifAccepted r (headOf u ++ drop 8 n) n
-      → n′ ≡ ifAccepted r (numbersOf (new (stateFrom n))) n
-  call-numbers new {u = u} same e f g h k = k ∙ go (eqb r 0) (h ∙ ap₂ (λ (j : ℕ) (x : State). ifAccepted j (new x) x) (sym g) f)
+      → u ≡ ifAccepted (number s) (new s) s → n′ ≡ ifAccepted r (headStored n u) n → n′ ≡ ifAccepted r (numbersOf (new (stateFrom n))) n
+  call-numbers new {u = u} same h k = k ∙ go (isState n) refl (g ∙ ap number f) f
     where
-      go : (b : Bool) → u ≡ cond b (new (stateFrom n)) (stateFrom n) → cond b (headOf u ++ drop 8 n) n ≡ cond b (numbersOf (new (stateFrom n))) n
-      go true p = ap (λ (x : State). headOf x ++ drop 8 n) p ∙ head-numbers n (new (stateFrom n)) e (same (stateFrom n))
-      go false p = refl
+      put : isState n ≡ true → (b : Bool) → u ≡ cond b (new (stateFrom n)) (stateFrom n) → cond b (headStored n u) n ≡ cond b (numbersOf (new (stateFrom n))) n
+      put e true p = ap (headStored n) p ∙ head-numbers n (new (stateFrom n)) e (same (stateFrom n))
+      put e false p = refl
+
+      go : (b : Bool) → isState n ≡ b → r ≡ number (cond b (stateFrom n) blank) → s ≡ cond b (stateFrom n) blank → ifAccepted r (headStored n u) n ≡ ifAccepted r (numbersOf (new (stateFrom n))) n
+      go true e p q = put e (eqb r 0) (h ∙ ap₂ (λ (j : ℕ) (x : State). ifAccepted j (new x) x) (sym g) q)
+      go false e p q = rw (p ∙ none)
 
 -- the numbers of an answer, told by the number that C gets
-told : {n : List ℕ} {number : ℕ} {s : State} {r : ℕ} {n′ : List ℕ} → Kept n number s r n′ → n′ ≡ ifAccepted r (headOf s ++ drop 8 n) n
-told {n = n} {s = s} k = k .left ∙ ap (λ (j : ℕ). ifAccepted j (headOf s ++ drop 8 n) n) (sym (k .answer))
+told : {n : List ℕ} {number : ℕ} {s : State} {r : ℕ} {n′ : List ℕ} → Kept n number s r n′ → n′ ≡ ifAccepted r (headStored n s) n
+told {n = n} {s = s} k = k .left ∙ ap (λ (j : ℕ). ifAccepted j (headStored n s) n) (sym (k .answer))
 
-pub kept-done : (n : List ℕ) (number : ℕ) (s : State) (n′ : List ℕ) → eqb number 0 ≡ true → n′ ≡ headOf s ++ drop 8 n → Kept n number s 0 n′
+pub kept-done : (n : List ℕ) (number : ℕ) (s : State) (n′ : List ℕ) → eqb number 0 ≡ true → n′ ≡ headStored n s → Kept n number s 0 n′
 kept-done n number s n′ e f = record { answer = sym (eqb-true number 0 e); left = rw e f }
 
 pub kept-refused : (n : List ℕ) (number : ℕ) (s : State) (r : ℕ) → eqb number 0 ≡ false → r ≡ number → Kept n number s r n
 kept-refused n number s r e f = record { answer = f; left = rw e }
 
+-- ---- settings
+
+-- what stands for none is out of range
+pub none-out : settingsOk (blank .settings) ≡ false
+unfolding blank idle settingsOk ranges
+none-out = refl
+
+module _ (m : List ℕ) (number : Settings → ℕ) (none : number (blank .settings) ≡ numberOf R.Setting) where
+  -- so that numbers that are no settings are refused as it is
+  pub settings-number : number (settingsIn m) ≡ onSettings m (number (settingsFrom m))
+  settings-number = go (isSettings m)
+    where
+      go : (b : Bool) → number (cond b (settingsFrom m) (blank .settings)) ≡ cond b (number (settingsFrom m)) (numberOf R.Setting)
+      go true = refl
+      go false = none
+
+  pub settings-accepted : number (settingsIn m) ≡ 0 → isSettings m ≡ true
+  settings-accepted e = go (isSettings m) e
+    where
+      go : (b : Bool) → number (cond b (settingsFrom m) (blank .settings)) ≡ 0 → b ≡ true
+      go true p = refl
+      go false p = absurd (omega (arith, p, none))
+
 -- ---- set up
 
-pub set-up-none : (m n : List ℕ) → isSettings m ≡ false → SetUpFace m n 1 n
-set-up-none m n e = record { number = rw e; numbers = refl }
+set-up-out : setUpNumber (blank .settings) ≡ numberOf R.Setting
+unfolding setUpNumber firstOf
+set-up-out = rw none-out
 
-module _ (m n : List ℕ) {s : Settings} {a : Answer} (e : isSettings m ≡ true) (f : s ≡ settingsFrom m) (d : SetUpSays s a) where
+module _ (m n : List ℕ) {s : Settings} {a : Answer} (f : s ≡ settingsIn m) (d : SetUpSays s a) where
   first-number : (later : ℕ) → orElse (onSettings m (setUpNumber (settingsFrom m))) later ≡ orElse (numberOf (a .refusal)) later
-  first-number later = ap (λ (k : ℕ). orElse k later) (ap (λ (b : Bool). cond b (setUpNumber (settingsFrom m)) 1) e ∙ sym (d .refusal ∙ ap setUpNumber f))
+  first-number later = ap (λ (k : ℕ). orElse k later) (sym (d .refusal ∙ ap setUpNumber f ∙ settings-number m setUpNumber set-up-out))
 
   pub set-up-refused : {r : ℕ} → r ≡ numberOf (a .refusal) → eqb (numberOf (a .refusal)) 0 ≡ false → SetUpFace m n r n
   set-up-refused g h =
+      let later : ℕ = cond (eqb (length n) stateCount) 0 (numberOf R.State) in
       record {
-        number = g ∙ sym (first-number (cond (eqb (length n) 34) 0 10) ∙ ap (λ (b : Bool). cond b (cond (eqb (length n) 34) 0 10) (numberOf (a .refusal))) h);
+        number = g ∙ sym (first-number later ∙ ap (λ (b : Bool). cond b later (numberOf (a .refusal))) h);
         numbers = rw (ap (λ (k : ℕ). eqb k 0) g ∙ h);
       }
 
-  pub set-up-other : eqb (numberOf (a .refusal)) 0 ≡ true → (length n ≡ 34 → ⊥) → SetUpFace m n 10 n
-  set-up-other h k = record { number = sym (first-number (cond (eqb (length n) 34) 0 10) ∙ rw (h, ne-eqb _ _ k)); numbers = refl }
+  pub set-up-other : {r : ℕ} → r ≡ numberOf R.State → eqb (numberOf (a .refusal)) 0 ≡ true → (length n ≡ stateCount → ⊥) → SetUpFace m n r n
+  set-up-other g h k = rw g (record { number = sym (first-number (cond (eqb (length n) stateCount) 0 (numberOf R.State)) ∙ rw (h, ne-eqb _ _ k)); numbers = refl })
 
-  pub set-up-face : {n′ : List ℕ} → eqb (numberOf (a .refusal)) 0 ≡ true → length n ≡ 34 → n′ ≡ headOf (a .state) ++ m → SetUpFace m n 0 n′
+  pub set-up-face : {n′ : List ℕ} → eqb (numberOf (a .refusal)) 0 ≡ true → length n ≡ stateCount → n′ ≡ stateStored n (a .state) m → SetUpFace m n 0 n′
   unfolding numbersOf idle
   set-up-face h k g =
       let accepted : setUpNumber s ≡ 0 = sym (d .refusal) ∙ eqb-true _ 0 h in
+      let e : isSettings m ≡ true = settings-accepted m setUpNumber set-up-out (ap setUpNumber (sym f) ∙ accepted) in
+      let same : s ≡ settingsFrom m = f ∙ ap (λ (b : Bool). cond b (settingsFrom m) (blank .settings)) e in
       let state : a .state ≡ idle s = d .state ∙ done (idle s) blank accepted in
+      let whole : stateStored n (a .state) m ≡ headOf (a .state) ++ m = rw (eq-eqb _ _ k, eq-eqb _ _ (settings-count m e)) in
       record {
-        number = sym (first-number (cond (eqb (length n) 34) 0 10) ∙ rw (h, eq-eqb _ _ k));
-        numbers = g ∙ ap (λ (x : State). headOf x ++ m) (state ∙ ap idle f) ∙ ap (λ (l : List ℕ). headOf (idle (settingsFrom m)) ++ l) (sym (settings-back m e));
+        number = sym (first-number (cond (eqb (length n) stateCount) 0 (numberOf R.State)) ∙ rw (h, eq-eqb _ _ k));
+        numbers = g ∙ whole ∙ ap (λ (x : State). headOf x ++ m) (state ∙ ap idle same) ∙ ap (λ (l : List ℕ). headOf (idle (settingsFrom m)) ++ l) (sym (settings-back m e));
       }
 
 -- ---- open a block
+
+block-out : (room block events : ℕ) → openBlockNumber blank room block events ≡ numberOf R.State
+unfolding openBlockNumber openBlockTable firstOf
+block-out room block events = rw blank-out
 
 block-same : (block events : ℕ) (s : State) → blockOpened s block events .settings ≡ s .settings
 unfolding withBlock
 block-same block events s = refl
 
-pub open-block-none : (n words : List ℕ) (block events : ℕ) → isState n ≡ false → OpenBlockFace n words block events 10 n words
-open-block-none n words block events e = record { number = rw e; numbers = refl; buffer = refl }
-
-pub open-block-face : (n words : List ℕ) (block events : ℕ) {s : State} {a : Answer} {r : ℕ} {n′ words′ : List ℕ} → isState n ≡ true → s ≡ stateFrom n
+pub open-block-face : (n words : List ℕ) (block events : ℕ) {s : State} {a : Answer} {r : ℕ} {n′ words′ : List ℕ} → s ≡ stateIn n
     → OpenBlockSays s words block events a words′ → Kept n (numberOf (a .refusal)) (a .state) r n′ → OpenBlockFace n words block events r n′ words′
-open-block-face n words block events e f d k =
+open-block-face n words block events f d k =
     let number : State → ℕ = λ x. openBlockNumber x (length words) block events in
     let g = k .answer ∙ d .refusal in
     record {
-      number = call-number n number e f g;
-      numbers = call-numbers n number (λ (x : State). blockOpened x block events) (block-same block events) e f g (d .state) (told k);
-      buffer = call-lent n number (λ (x : State). splice words (x .words) (wordsOf (blockItems (x .settings) block events))) words f g (d .buffer);
+      number = call-number n number (block-out (length words) block events) f g;
+      numbers = call-numbers n number (block-out (length words) block events) f g (λ (x : State). blockOpened x block events) (block-same block events) (d .state) (told k);
+      buffer = call-lent n number (block-out (length words) block events) f g (λ (x : State). splice words (x .words) (wordsOf (blockItems (x .settings) block events))) words (d .buffer);
     }
 
 -- ---- open an event
+
+event-out : (event time : ℕ) → openEventNumber blank event time ≡ numberOf R.State
+unfolding openEventNumber openEventTable firstOf
+event-out event time = rw blank-out
 
 event-same : (event time : ℕ) (s : State) → withEvent s event time .settings ≡ s .settings
 unfolding withEvent
 event-same event time s = refl
 
-pub open-event-none : (n : List ℕ) (event time : ℕ) → isState n ≡ false → OpenEventFace n event time 10 n
-open-event-none n event time e = record { number = rw e; numbers = refl }
-
-pub open-event-face : (n : List ℕ) (event time : ℕ) {s : State} {a : Answer} {r : ℕ} {n′ : List ℕ} → isState n ≡ true → s ≡ stateFrom n
+pub open-event-face : (n : List ℕ) (event time : ℕ) {s : State} {a : Answer} {r : ℕ} {n′ : List ℕ} → s ≡ stateIn n
     → OpenEventSays s event time a → Kept n (numberOf (a .refusal)) (a .state) r n′ → OpenEventFace n event time r n′
-open-event-face n event time e f d k =
+open-event-face n event time f d k =
     let number : State → ℕ = λ x. openEventNumber x event time in
     let g = k .answer ∙ d .refusal in
     record {
-      number = call-number n number e f g;
-      numbers = call-numbers n number (λ (x : State). withEvent x event time) (event-same event time) e f g (d .state) (told k);
+      number = call-number n number (event-out event time) f g;
+      numbers = call-numbers n number (event-out event time) f g (λ (x : State). withEvent x event time) (event-same event time) (d .state) (told k);
     }
 
 -- ---- post a channel
+
+mark-out : (room c : ℕ) (w : List ℕ) → postNumber blank room c w ≡ numberOf R.State
+unfolding postNumber postTable firstOf
+mark-out room c w = rw blank-out
 
 mark-same : (c : ℕ) (s : State) → posted s c .settings ≡ s .settings
 unfolding withMark
 mark-same c s = refl
 
-pub post-none : (n store : List ℕ) (c : ℕ) (w : List ℕ) → isState n ≡ false → PostFace n store c w 10 n store
-post-none n store c w e = record { number = rw e; numbers = refl; rows = refl }
-
-pub post-face : (n store : List ℕ) (c : ℕ) (w : List ℕ) {s : State} {a : Answer} {r : ℕ} {n′ store′ : List ℕ} → isState n ≡ true → s ≡ stateFrom n
+pub post-face : (n store : List ℕ) (c : ℕ) (w : List ℕ) {s : State} {a : Answer} {r : ℕ} {n′ store′ : List ℕ} → s ≡ stateIn n
     → PostSays s store c w a store′ → Kept n (numberOf (a .refusal)) (a .state) r n′ → PostFace n store c w r n′ store′
-post-face n store c w e f d k =
+post-face n store c w f d k =
     let number : State → ℕ = λ x. postNumber x (length store) c w in
     let g = k .answer ∙ d .refusal in
     record {
-      number = call-number n number e f g;
-      numbers = call-numbers n number (λ (x : State). posted x c) (mark-same c) e f g (d .state) (told k);
-      rows = call-lent n number (λ (x : State). splice store (rowStart x c) w) store f g (d .rows);
+      number = call-number n number (mark-out (length store) c w) f g;
+      numbers = call-numbers n number (mark-out (length store) c w) f g (λ (x : State). posted x c) (mark-same c) (d .state) (told k);
+      rows = call-lent n number (mark-out (length store) c w) f g (λ (x : State). splice store (rowStart x c) w) store (d .rows);
     }
 
 -- ---- close the event
+
+close-out : (store : List ℕ) (room : ℕ) → closeNumber blank store room ≡ numberOf R.State
+unfolding closeNumber closeTable firstOf
+close-out store room = rw blank-out
 
 close-same : (store : List ℕ) (s : State) → eventClosed s store .settings ≡ s .settings
 unfolding withClosed
 close-same store s = refl
 
-pub close-none : (n store words : List ℕ) → isState n ≡ false → CloseFace n store words 10 n words
-close-none n store words e = record { number = rw e; numbers = refl; buffer = refl }
-
-pub close-face : (n store words : List ℕ) {s : State} {a : Answer} {r : ℕ} {n′ words′ : List ℕ} → isState n ≡ true → s ≡ stateFrom n
+pub close-face : (n store words : List ℕ) {s : State} {a : Answer} {r : ℕ} {n′ words′ : List ℕ} → s ≡ stateIn n
     → CloseSays s store words a words′ → Kept n (numberOf (a .refusal)) (a .state) r n′ → CloseFace n store words r n′ words′
-close-face n store words e f d k =
+close-face n store words f d k =
     let number : State → ℕ = λ x. closeNumber x store (length words) in
     let g = k .answer ∙ d .refusal in
     record {
-      number = call-number n number e f g;
-      numbers = call-numbers n number (λ (x : State). eventClosed x store) (close-same store) e f g (d .state) (told k);
-      buffer = call-lent n number (λ (x : State). splice words (x .words) (wordsOf (closingItems x store))) words f g (d .buffer);
+      number = call-number n number (close-out store (length words)) f g;
+      numbers = call-numbers n number (close-out store (length words)) f g (λ (x : State). eventClosed x store) (close-same store) (d .state) (told k);
+      buffer = call-lent n number (close-out store (length words)) f g (λ (x : State). splice words (x .words) (wordsOf (closingItems x store))) words (d .buffer);
     }
 
 -- ---- finish the block
+
+idle-out : (room : ℕ) → finishNumber blank room ≡ numberOf R.State
+unfolding finishNumber finishTable firstOf
+idle-out room = rw blank-out
 
 idle-same : (s : State) → idle (s .settings) .settings ≡ s .settings
 unfolding idle
 idle-same s = refl
 
-pub finish-none : (n words : List ℕ) → isState n ≡ false → FinishFace n words (10 * 2 ^ 32) n words
-finish-none n words e = record { number = rw e; numbers = rw e; buffer = rw e }
-
 -- the number, the state and the words; j is the number of the refusal
-pub finish-face : (n words : List ℕ) {s : State} {a : Finished} {j r : ℕ} {n′ words′ : List ℕ} → isState n ≡ true → s ≡ stateFrom n
+pub finish-face : (n words : List ℕ) {s : State} {a : Finished} {j r : ℕ} {n′ words′ : List ℕ} → s ≡ stateIn n
     → FinishSays s words a words′ → Kept n (numberOf (a .refusal)) (a .state) j n′ → r ≡ inHigh j (a .length) → FinishFace n words r n′ words′
-finish-face n words {a = a} {j = j} e f d k h =
+finish-face n words {a = a} {j = j} f d k h =
     let number : State → ℕ = λ x. finishNumber x (length words) in
     let g = k .answer ∙ d .refusal in
-    let same : j ≡ finishOn n (length words) = call-number n number e f g in
+    let same : j ≡ finishOn n (length words) = call-number n number (idle-out (length words)) f g in
     let size : State → ℕ = λ x. x .words + length (endItems (x .settings) (x .words)) in
     let new : State → List ℕ = λ x. splice words (x .words) (wordsOf (endItems (x .settings) (x .words))) in
     record {
-      number = h ∙ high (eqb j 0) (a .length) (size (stateFrom n)) (j * 2 ^ 32) (call-lent n number size 0 f g (d .size)) ∙ ap (λ (i : ℕ). inHigh i (size (stateFrom n))) same;
-      numbers = call-numbers n number (λ (x : State). idle (x .settings)) idle-same e f g (d .state) (told k) ∙ ap (λ (i : ℕ). ifAccepted i (numbersOf (idle (stateFrom n .settings))) n) same;
-      buffer = call-lent n number new words f g (d .buffer) ∙ ap (λ (i : ℕ). ifAccepted i (new (stateFrom n)) words) same;
+      number = h ∙ high (eqb j 0) (a .length) (size (stateFrom n)) (j * 2 ^ 32) (call-lent n number (idle-out (length words)) f g size 0 (d .size)) ∙ ap (λ (i : ℕ). inHigh i (size (stateFrom n))) same;
+      numbers = call-numbers n number (idle-out (length words)) f g (λ (x : State). idle (x .settings)) idle-same (d .state) (told k) ∙ ap (λ (i : ℕ). ifAccepted i (numbersOf (idle (stateFrom n .settings))) n) same;
+      buffer = call-lent n number (idle-out (length words)) f g new words (d .buffer) ∙ ap (λ (i : ℕ). ifAccepted i (new (stateFrom n)) words) same;
     }
   where
     high : (b : Bool) (l size number : ℕ) → l ≡ cond b size 0 → cond b l number ≡ cond b size number

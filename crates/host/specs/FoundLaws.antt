@@ -1,5 +1,5 @@
--- What the finder's call stores: the pulses found, as 28 numbers. Assumes nothing.
-use Prim.Native.Nat.{ℕ, _+_, _<_, _≤_}
+-- What the finder's call stores: the pulses found, as numbers. Assumes nothing.
+use Prim.Native.Nat.{ℕ, _+_, _*_, _<_, _≤_}
 use mathlib.Core.Path.{_≡_, refl, sym, ap, ap₂, _∙_}
 use mathlib.Core.Bool.{Bool, true, false, cond}
 use mathlib.Core.List.{List, [], _∷_, _++_, append-assoc}
@@ -8,17 +8,23 @@ use borrow.Author.Tests.{eqb-true, lt-ltb, le-ltb}
 use lib.Dec.{eqb, ltb}
 use lib.ListN.{length, getD, replicate, length-append}
 use Rattle.ground.specs.Splice.{splice}
+use Rattle.ground.specs.Tests.{firstOf}
 use Rattle.ground.specs.SpliceLaws.{splice-splice, length-splice}
 use Rattle.settings.specs.declared.Settings.{Settings}
 use Rattle.refusals.specs.Refusal.{numberOf}
-use Rattle.finder.specs.declared.Answer.{Answer}
+use Rattle.refusals.specs.declared.Refusal.the-variants as R
+use Rattle.writer.specs.declared.Answer.{Answer}
 use Rattle.finder.specs.declared.Pulse.{Pulse}
 use Rattle.finder.specs.declared.Pulses.{Pulses}
 use Rattle.finder.specs.Find.{noPulse, packed}
 use Rattle.finder.specs.RangeLaws.{PulseFits, EachFits, fits-at, pulses-fit, pulses-count, packed-count, packed-at}
-use Rattle.finder.specs.Call.{findNumber, channelPulses, foundPulses, FindSays}
-use Rattle.finder.specs.CallLaws.{accepted, found-none, found-all}
-use Rattle.host.specs.Face.{isSettings, settingsFrom, onSettings, orElse, pulseNumbers, rowOf, foundNumbers, FindFace}
+use Rattle.find.specs.Call.{findTable, findNumber, channelPulses, foundPulses, FindSays}
+use Rattle.find.specs.CallLaws.{accepted}
+use Rattle.find.specs.CallLaws.{found-none, found-all}
+use Rattle.state.specs.State.{blank}
+use Rattle.numbers.specs.Numbers.{isSettings, settingsFrom, settingsIn}
+use Rattle.host.specs.Face.{onSettings, orElse, pulseNumbers, pulseCount, pulseRow, foundCount, foundNumbers, FindFace}
+use Rattle.host.specs.FaceLaws.{none-out, settings-number, settings-accepted}
 use Rattle.host.specs.Inner.{Small, AllSmall}
 
 -- ---- what is found is small
@@ -56,69 +62,72 @@ found-small s c w a d = rw (d .found) (pulses-small s c w)
 
 -- ---- the rows
 
-pub row-full : (found : Pulses) (i : ℕ) → i < found .count → rowOf found i ≡ pulseNumbers (getD (found .pulses) i noPulse)
-unfolding rowOf
+pub row-full : (found : Pulses) (i : ℕ) → i < found .count → pulseRow found i ≡ pulseNumbers (getD (found .pulses) i noPulse)
+unfolding pulseRow
 row-full found i h = rw (lt-ltb _ _ h)
 
-pub row-empty : (found : Pulses) (i : ℕ) → found .count ≤ i → rowOf found i ≡ replicate 9 0
-unfolding rowOf
+pub row-empty : (found : Pulses) (i : ℕ) → found .count ≤ i → pulseRow found i ≡ replicate pulseCount 0
+unfolding pulseRow
 row-empty found i h = rw (le-ltb _ _ h)
 
-row-nine : (found : Pulses) (i : ℕ) → length (rowOf found i) ≡ 9
-unfolding rowOf pulseNumbers
-row-nine found i = go (ltb i (found .count))
+row-count : (found : Pulses) (i : ℕ) → length (pulseRow found i) ≡ pulseCount
+unfolding pulseRow pulseNumbers
+row-count found i = go (ltb i (found .count))
   where
-    go : (b : Bool) → length (cond b (pulseNumbers (getD (found .pulses) i noPulse)) (replicate 9 0)) ≡ 9
+    go : (b : Bool) → length (cond b (pulseNumbers (getD (found .pulses) i noPulse)) (replicate pulseCount 0)) ≡ pulseCount
     go true = refl
     go false = refl
 
--- four writings behind each other are one of 28 numbers
-pub found-put : (out : List ℕ) (found : Pulses) {o p q r a b c : List ℕ} → 28 ≤ length out → a ≡ rowOf found 0 → b ≡ rowOf found 1 → c ≡ rowOf found 2
-    → o ≡ splice out 0 (found .count ∷ []) → p ≡ splice o 1 a → q ≡ splice p 10 b → r ≡ splice q 19 c → r ≡ splice out 0 (foundNumbers found)
+-- four writings behind each other are one
+pub found-put : (out : List ℕ) (found : Pulses) {o p q r a b c : List ℕ} → foundCount ≤ length out → a ≡ pulseRow found 0 → b ≡ pulseRow found 1 → c ≡ pulseRow found 2
+    → o ≡ splice out 0 (found .count ∷ []) → p ≡ splice o 1 a → q ≡ splice p (1 + pulseCount) b → r ≡ splice q (1 + 2 * pulseCount) c → r ≡ splice out 0 (foundNumbers found)
 unfolding foundNumbers
 found-put out found h ea eb ec eo ep eq er =
     let one = found .count ∷ [] in
-    let a = rowOf found 0 in
-    let b = rowOf found 1 in
-    let c = rowOf found 2 in
-    let at-b : 1 + length a ≡ 10 = omega (arith, row-nine found 0) in
-    let at-c : 1 + length (a ++ b) ≡ 19 = omega (arith, length-append a b, row-nine found 0, row-nine found 1) in
+    let a = pulseRow found 0 in
+    let b = pulseRow found 1 in
+    let c = pulseRow found 2 in
+    let at-b : 1 + length a ≡ 1 + pulseCount = omega (arith, row-count found 0) in
+    let at-c : 1 + length (a ++ b) ≡ 1 + 2 * pulseCount = omega (arith, length-append a b, row-count found 0, row-count found 1) in
     let first : splice (splice out 0 one) 1 (a ++ (b ++ c)) ≡ splice out 0 (one ++ (a ++ (b ++ c))) = splice-splice out 0 one (a ++ (b ++ c)) (omega arith) in
     let base = splice out 0 one in
     let room : 1 ≤ length base = omega (arith, length-splice out 0 one (omega arith)) in
-    let second : splice (splice base 1 a) 10 b ≡ splice base 1 (a ++ b) = ap (λ (k : ℕ). splice (splice base 1 a) k b) (sym at-b) ∙ splice-splice base 1 a b room in
-    let third : splice (splice base 1 (a ++ b)) 19 c ≡ splice base 1 ((a ++ b) ++ c) = ap (λ (k : ℕ). splice (splice base 1 (a ++ b)) k c) (sym at-c) ∙ splice-splice base 1 (a ++ b) c room in
+    let second : splice (splice base 1 a) (1 + pulseCount) b ≡ splice base 1 (a ++ b) = ap (λ (k : ℕ). splice (splice base 1 a) k b) (sym at-b) ∙ splice-splice base 1 a b room in
+    let third : splice (splice base 1 (a ++ b)) (1 + 2 * pulseCount) c ≡ splice base 1 ((a ++ b) ++ c) = ap (λ (k : ℕ). splice (splice base 1 (a ++ b)) k c) (sym at-c) ∙ splice-splice base 1 (a ++ b) c room in
     er
-    ∙ ap₂ (λ (x y : List ℕ). splice x 19 y) (eq ∙ ap₂ (λ (x y : List ℕ). splice x 10 y) (ep ∙ ap₂ (λ (x y : List ℕ). splice x 1 y) eo ea) eb) ec
-    ∙ ap (λ (x : List ℕ). splice x 19 c) second
+    ∙ ap₂ (λ (x y : List ℕ). splice x (1 + 2 * pulseCount) y) (eq ∙ ap₂ (λ (x y : List ℕ). splice x (1 + pulseCount) y) (ep ∙ ap₂ (λ (x y : List ℕ). splice x 1 y) eo ea) eb) ec
+    ∙ ap (λ (x : List ℕ). splice x (1 + 2 * pulseCount) c) second
     ∙ third
     ∙ ap (λ (x : List ℕ). splice base 1 x) (append-assoc a b c)
     ∙ first
 
 -- ---- the call
 
-pub find-none : (m : List ℕ) (c : ℕ) (w out : List ℕ) → isSettings m ≡ false → FindFace m c w out 1 out
-find-none m c w out e = record { number = rw e; numbers = refl }
+find-out : (c : ℕ) (w : List ℕ) → findNumber (blank .settings) c w ≡ numberOf R.Setting
+unfolding findNumber findTable firstOf
+find-out c w = rw none-out
 
-module _ (m : List ℕ) (c : ℕ) (w out : List ℕ) {s : Settings} {a : Answer} (e : isSettings m ≡ true) (f : s ≡ settingsFrom m) (d : FindSays s c w a) where
+module _ (m : List ℕ) (c : ℕ) (w out : List ℕ) {s : Settings} {a : Answer} (f : s ≡ settingsIn m) (d : FindSays s c w a) where
   first-number : (later : ℕ) → orElse (onSettings m (findNumber (settingsFrom m) c w)) later ≡ orElse (numberOf (a .refusal)) later
-  first-number later =
-      ap (λ (k : ℕ). orElse k later) (ap (λ (b : Bool). cond b (findNumber (settingsFrom m) c w) 1) e ∙ sym (d .refusal ∙ ap (λ (x : Settings). findNumber x c w) f))
+  first-number later = ap (λ (k : ℕ). orElse k later) (sym (d .refusal ∙ ap (λ (x : Settings). findNumber x c w) f ∙ settings-number m (λ (x : Settings). findNumber x c w) (find-out c w)))
 
   pub find-refused : {r : ℕ} → r ≡ numberOf (a .refusal) → eqb (numberOf (a .refusal)) 0 ≡ false → FindFace m c w out r out
   find-refused g h =
-      let later : ℕ = cond (ltb (length out) 28) 9 0 in
+      let later : ℕ = cond (ltb (length out) foundCount) (numberOf R.Room) 0 in
       record {
         number = g ∙ sym (first-number later ∙ ap (λ (b : Bool). cond b later (numberOf (a .refusal))) h);
         numbers = rw (ap (λ (k : ℕ). eqb k 0) g ∙ h);
       }
 
-  pub find-short : eqb (numberOf (a .refusal)) 0 ≡ true → length out < 28 → FindFace m c w out 9 out
-  find-short h k = record { number = sym (first-number (cond (ltb (length out) 28) 9 0) ∙ rw (h, lt-ltb _ _ k)); numbers = refl }
+  pub find-short : {r : ℕ} → r ≡ numberOf R.Room → eqb (numberOf (a .refusal)) 0 ≡ true → length out < foundCount → FindFace m c w out r out
+  find-short g h k =
+      rw g (record { number = sym (first-number (cond (ltb (length out) foundCount) (numberOf R.Room) 0) ∙ rw (h, lt-ltb _ _ k)); numbers = refl })
 
-  pub find-face : {out′ : List ℕ} → eqb (numberOf (a .refusal)) 0 ≡ true → 28 ≤ length out → out′ ≡ splice out 0 (foundNumbers (a .found)) → FindFace m c w out 0 out′
+  pub find-face : {out′ : List ℕ} → eqb (numberOf (a .refusal)) 0 ≡ true → foundCount ≤ length out → out′ ≡ splice out 0 (foundNumbers (a .found)) → FindFace m c w out 0 out′
   find-face h k g =
+      let e : isSettings m ≡ true = settings-accepted m (λ (x : Settings). findNumber x c w) (find-out c w) (ap (λ (x : Settings). findNumber x c w) (sym f) ∙ sym (d .refusal) ∙ eqb-true _ 0 h) in
+      let same : s ≡ settingsFrom m = f ∙ ap (λ (b : Bool). cond b (settingsFrom m) (blank .settings)) e in
       record {
-        number = sym (first-number (cond (ltb (length out) 28) 9 0) ∙ rw (h, le-ltb _ _ k));
-        numbers = g ∙ ap (λ (x : Pulses). splice out 0 (foundNumbers x)) (d .found ∙ ap (λ (x : Settings). packed (foundPulses x c w)) f);
+        number = sym (first-number (cond (ltb (length out) foundCount) (numberOf R.Room) 0) ∙ rw (h, le-ltb _ _ k));
+        numbers = g ∙ ap (λ (x : Pulses). splice out 0 (foundNumbers x)) (d .found ∙ ap (λ (x : Settings). packed (foundPulses x c w)) same);
       }

@@ -1,19 +1,24 @@
 -- What the inner functions ask and leave. Assumes nothing.
-use Prim.Native.Nat.{ℕ, _<_, _≤_}
+use Prim.Native.Nat.{ℕ, _+_, _<_, _≤_}
 use mathlib.Core.Path.{_≡_}
-use mathlib.Core.List.{List, _++_}
-use lib.ListN.{drop, getD}
+use mathlib.Core.List.{List}
+use lib.ListN.{getD}
+use Rattle.fields.specs.Bytes.{wordOfBytes}
 use Rattle.finder.specs.declared.Pulse.{Pulse}
 use Rattle.finder.specs.declared.Pulses.{Pulses}
 use Rattle.finder.specs.Find.{noPulse}
 use Rattle.state.specs.declared.State.{State}
+use Rattle.numbers.specs.Numbers.{headStored}
 use Rattle.writer.specs.Calls.{ifAccepted}
-use Rattle.host.specs.Face.{headOf}
 
--- an accepted call's state over the first eight of the numbers n
+-- the word of the four bytes from i on
+abbrev pub wordAt : List ℕ → ℕ → ℕ
+wordAt bytes i = wordOfBytes (getD bytes i 0) (getD bytes (i + 1) 0) (getD bytes (i + 2) 0) (getD bytes (i + 3) 0)
+
+-- an accepted call's state stored over the front of the numbers n
 pub record Kept (n : List ℕ) (number : ℕ) (s : State) (r : ℕ) (n′ : List ℕ) : Type 0 where
   pub answer : r ≡ number
-  pub left : n′ ≡ ifAccepted number (headOf s ++ drop 8 n) n
+  pub left : n′ ≡ ifAccepted number (headStored n s) n
 
 -- a pulse's places are 32-bit numbers
 pub record Small (p : Pulse) : Type 0 where

@@ -1,9 +1,8 @@
-pub mod BackLaws
 pub mod Check
 pub mod CheckLaws
 pub mod Face
 pub mod FaceLaws
 pub mod FoundLaws
 pub mod Inner
-pub mod NumbersLaws
+pub mod LoadsLaws
 pub mod UniqueLaws

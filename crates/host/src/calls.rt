@@ -1,32 +1,53 @@
-// The calls that C makes: the numbers are loaded, the call is made, and an accepted one stores them back.
+// The calls that C makes: the numbers are loaded, the call is made, and an accepted one stores them back. Numbers that are no
+// state are loaded as what stands for none, which the call refuses with 10.
 ghost use mathlib.Core.Path.{_≡_};
+ghost use Rattle.refusals.specs.Refusal.{numberOf};
 ghost use Rattle.host.specs.Face.{SetUpFace, OpenBlockFace, OpenEventFace, PostFace, CloseFace, FinishFace, inHigh};
-use crate::numbers::is_settings;
-use crate::numbers::is_state;
-use crate::numbers::put_back;
-use crate::numbers::put_state;
-use crate::numbers::settings_from;
-use crate::numbers::state_from;
+ghost use Rattle.host.specs.Inner.{Kept};
+use numbers::load::settings_in;
+use numbers::load::state_in;
+use numbers::store::put_head;
+use numbers::store::put_state;
+use refusals::Refusal;
+use state::State;
+use writer::Answer;
 
 #[no_mangle]
 pub extern "C" fn fadc250_set_up(settings: &[u64], state: &mut [u64]) -> u32
     ensures { λ r. ⌜ SetUpFace (now (settings .entry)) (now (state .entry)) r (now (state .exit)) ⌝ }
 {
-    if !is_settings(settings) {
-        return 1;
-    }
-    let loaded = settings_from(settings);
+    let loaded = settings_in(settings);
     let answer = writer::set_up(loaded);
     let refusal = answer.refusal;
     if !refusals::accepted(refusal) {
         return refusals::number(refusal);
     }
-    if state.len() != 34 {
-        return 10;
+    if state.len() != numbers::STATE {
+        return refusals::number(Refusal::State);
     }
     let new = answer.state;
     put_state(state, new, settings);
     0
+}
+
+// What a call on a state ends with: an accepted one stores the state, and either answers its number.
+fn put_back(numbers: &mut [u64], refusal: Refusal, state: State) -> u32
+    ensures { λ r. ⌜ Kept (now (numbers .entry)) (numberOf refusal) state r (now (numbers .exit)) ⌝ }
+{
+    if refusals::accepted(refusal) {
+        put_head(numbers, state);
+        return 0;
+    }
+    refusals::number(refusal)
+}
+
+// The same of an answer.
+fn put_answer(numbers: &mut [u64], answer: Answer) -> u32
+    ensures { λ r. ⌜ Kept (now (numbers .entry)) (numberOf (answer .refusal)) (answer .state) r (now (numbers .exit)) ⌝ }
+{
+    let refusal = answer.refusal;
+    let state = answer.state;
+    put_back(numbers, refusal, state)
 }
 
 #[no_mangle]
@@ -38,28 +59,18 @@ pub extern "C" fn fadc250_open_block(
 ) -> u32
     ensures { λ r. ⌜ OpenBlockFace (now (state .entry)) (now (words .entry)) number events r (now (state .exit)) (now (words .exit)) ⌝ }
 {
-    if !is_state(state) {
-        return 10;
-    }
-    let loaded = state_from(state);
+    let loaded = state_in(state);
     let answer = writer::open_block(loaded, words, number, events);
-    let refusal = answer.refusal;
-    let new = answer.state;
-    put_back(state, refusal, new)
+    put_answer(state, answer)
 }
 
 #[no_mangle]
 pub extern "C" fn fadc250_open_event(state: &mut [u64], number: u32, time: u64) -> u32
     ensures { λ r. ⌜ OpenEventFace (now (state .entry)) number time r (now (state .exit)) ⌝ }
 {
-    if !is_state(state) {
-        return 10;
-    }
-    let loaded = state_from(state);
+    let loaded = state_in(state);
     let answer = writer::open_event(loaded, number, time);
-    let refusal = answer.refusal;
-    let new = answer.state;
-    put_back(state, refusal, new)
+    put_answer(state, answer)
 }
 
 #[no_mangle]
@@ -71,28 +82,18 @@ pub extern "C" fn fadc250_post(
 ) -> u32
     ensures { λ r. ⌜ PostFace (now (state .entry)) (now (store .entry)) channel (now (window .entry)) r (now (state .exit)) (now (store .exit)) ⌝ }
 {
-    if !is_state(state) {
-        return 10;
-    }
-    let loaded = state_from(state);
+    let loaded = state_in(state);
     let answer = writer::post(loaded, store, channel as usize, window);
-    let refusal = answer.refusal;
-    let new = answer.state;
-    put_back(state, refusal, new)
+    put_answer(state, answer)
 }
 
 #[no_mangle]
 pub extern "C" fn fadc250_close(state: &mut [u64], store: &[u16], words: &mut [u32]) -> u32
     ensures { λ r. ⌜ CloseFace (now (state .entry)) (now (store .entry)) (now (words .entry)) r (now (state .exit)) (now (words .exit)) ⌝ }
 {
-    if !is_state(state) {
-        return 10;
-    }
-    let loaded = state_from(state);
+    let loaded = state_in(state);
     let answer = writer::close(loaded, store, words);
-    let refusal = answer.refusal;
-    let new = answer.state;
-    put_back(state, refusal, new)
+    put_answer(state, answer)
 }
 
 // The refusal stands above the lower 32 bits, the block's length in them.
@@ -109,10 +110,7 @@ fn in_high(number: u32, length: usize) -> u64
 pub extern "C" fn fadc250_finish(state: &mut [u64], words: &mut [u32]) -> u64
     ensures { λ r. ⌜ FinishFace (now (state .entry)) (now (words .entry)) r (now (state .exit)) (now (words .exit)) ⌝ }
 {
-    if !is_state(state) {
-        return in_high(10, 0);
-    }
-    let loaded = state_from(state);
+    let loaded = state_in(state);
     let finished = writer::finish(loaded, words);
     let refusal = finished.refusal;
     let new = finished.state;

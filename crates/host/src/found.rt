@@ -1,17 +1,28 @@
-// The finder's call: the pulses found, as 28 numbers that the host lends.
+// The finder's call: the pulses found, as numbers that the host lends.
 ghost use mathlib.Core.Path.{_≡_};
 ghost use Prim.Native.Nat.{_+_, _<_, _≤_};
 ghost use lib.ListN.{length};
 ghost use Rattle.ground.specs.Splice.{splice};
-ghost use Rattle.host.specs.Face.{pulseNumbers, rowOf, foundNumbers, FindFace};
+ghost use Rattle.host.specs.Face.{pulseNumbers, pulseRow, foundCount, foundNumbers, FindFace};
 ghost use Rattle.host.specs.Inner.{Small, AllSmall};
-use crate::numbers::is_settings;
-use crate::numbers::settings_from;
 use finder::Pulse;
 use finder::Pulses;
+use numbers::load::settings_in;
+use refusals::Refusal;
+
+// How many numbers a pulse has, where those of each place stand, behind the count, and how many are written.
+const PULSE: usize = 9;
+
+const FIRST: usize = 1;
+
+const SECOND: usize = FIRST + PULSE;
+
+const THIRD: usize = SECOND + PULSE;
+
+const FOUND: usize = THIRD + PULSE;
 
 // TC, first, last, sum before the cap, coarse, fine, VMIN, VPEAK, rule.
-fn pulse_numbers(pulse: Pulse) -> [u32; 9]
+fn pulse_numbers(pulse: Pulse) -> [u32; PULSE]
     requires { ⌜ Small pulse ⌝ }
     ensures { λ r. ⌜ r ≡ pulseNumbers pulse ⌝ }
 {
@@ -31,16 +42,16 @@ fn pulse_numbers(pulse: Pulse) -> [u32; 9]
     ]
 }
 
-// The nine numbers of a place, zeros past the count.
-fn row_of(found: Pulses, place: usize) -> [u32; 9]
+// The numbers of a place, zeros past the count.
+fn pulse_row(found: Pulses, place: usize) -> [u32; PULSE]
     requires { ⌜ (place < 3) × AllSmall found ⌝ }
-    ensures { λ r. ⌜ r ≡ rowOf found place ⌝ }
+    ensures { λ r. ⌜ r ≡ pulseRow found place ⌝ }
 {
     if place < found.count {
         let pulses = found.pulses;
         return pulse_numbers(pulses[place]);
     }
-    [0; 9]
+    [0; PULSE]
 }
 
 // Copies `new` into the numbers from a place on.
@@ -55,19 +66,19 @@ fn put_at(out: &mut [u32], at: usize, new: &[u32])
     }
 }
 
-// The count, then the nine numbers of each place.
+// The count, then the numbers of each place.
 fn put_found(out: &mut [u32], found: Pulses)
-    requires { ⌜ (28 ≤ length (now out)) × AllSmall found ⌝ }
+    requires { ⌜ (foundCount ≤ length (now out)) × AllSmall found ⌝ }
     ensures { λ _. ⌜ now (out .exit) ≡ splice (now (out .entry)) 0 (foundNumbers found) ⌝ }
 {
     let count = [found.count as u32];
-    let first = row_of(found, 0);
-    let second = row_of(found, 1);
-    let third = row_of(found, 2);
+    let first = pulse_row(found, 0);
+    let second = pulse_row(found, 1);
+    let third = pulse_row(found, 2);
     put_at(out, 0, &count);
-    put_at(out, 1, &first);
-    put_at(out, 10, &second);
-    put_at(out, 19, &third);
+    put_at(out, FIRST, &first);
+    put_at(out, SECOND, &second);
+    put_at(out, THIRD, &third);
 }
 
 #[no_mangle]
@@ -79,17 +90,14 @@ pub extern "C" fn fadc250_find(
 ) -> u32
     ensures { λ r. ⌜ FindFace (now (settings .entry)) channel (now (window .entry)) (now (out .entry)) r (now (out .exit)) ⌝ }
 {
-    if !is_settings(settings) {
-        return 1;
-    }
-    let loaded = settings_from(settings);
-    let answer = finder::find(loaded, channel as usize, window);
+    let loaded = settings_in(settings);
+    let answer = find::find(loaded, channel as usize, window);
     let refusal = answer.refusal;
     if !refusals::accepted(refusal) {
         return refusals::number(refusal);
     }
-    if out.len() < 28 {
-        return 9;
+    if out.len() < FOUND {
+        return refusals::number(Refusal::Room);
     }
     let found = answer.found;
     put_found(out, found);

@@ -63,5 +63,5 @@ listingOf bytes = textOf (linesOf bytes)
 
 -- a proof that computes opens this file and what it leans on by one name
 unfoldable pub allOpen : Unit {0}
-unfolding itemLines fillersIn blockLines linesFrom linesOf listingOf Rattle.scan.specs.After.allOpen Rattle.reader.specs.Reader.allOpen Rattle.fields.specs.Bytes.allOpen Rattle.text.specs.Line.allOpen Rattle.lines.specs.Lines.allOpen
+unfolding itemLines fillersIn blockLines linesFrom linesOf listingOf Rattle.scan.specs.After.allOpen Rattle.reader.specs.Reader.allOpen Rattle.fields.specs.Bytes.allOpen Rattle.entries.specs.Entries.allOpen Rattle.text.specs.Line.allOpen Rattle.lines.specs.Lines.allOpen
 allOpen = tt

@@ -62,3 +62,8 @@ pulseLength m p = cond (m .raw) (1 + pairsOf (p .last + 1 - p .first)) 0 + (oneI
 unfoldable pub fitsIn : ℕ → Pulse → Bool
 fitsIn n p =
     allOf (leb (p .tc) n ∷ leb 1 (p .first) ∷ leb (p .first) (p .last) ∷ leb (p .last) n ∷ leb (p .time .coarse) n ∷ leb n mostSamples ∷ [])
+
+-- a proof that computes opens this file and what it leans on by one name
+unfoldable pub allOpen : Unit {0}
+unfolding setOf rawItems integralItem timeItem pedestalItem pulseItems pulseLength fitsIn Rattle.ground.specs.Tests.allOpen Rattle.limits.specs.Limits.allOpen Rattle.items.specs.Items.allOpen
+allOpen = tt

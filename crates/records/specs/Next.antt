@@ -171,5 +171,5 @@ OfRaw (R.Empty r) P = Unit {0}
 
 -- a proof that computes opens this file and what it leans on by one name
 unfoldable pub allOpen : Unit {0}
-unfolding highFrom fillFrom nextFrom nextAt Rattle.scan.specs.After.allOpen Rattle.reader.specs.Reader.allOpen Rattle.rawitems.specs.Pairs.allOpen
+unfolding nextFrom nextAt Rattle.reader.specs.Reader.allOpen Rattle.rawitems.specs.Pairs.allOpen Rattle.follow.specs.Follow.allOpen
 allOpen = tt

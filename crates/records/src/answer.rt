@@ -9,10 +9,10 @@ use framing::trigger_time_high::TriggerTimeHigh;
 use measures::integral::PulseIntegral;
 use measures::pedestal::PulsePedestal;
 use measures::time::PulseTime;
-use rawitems::Pairs;
 use raw::pair::SamplePair;
 use raw::pulse_raw::PulseRaw;
 use raw::window::WindowRaw;
+use rawitems::Pairs;
 use scan::Scan;
 
 pub enum Record {

@@ -5,10 +5,10 @@ ghost use Rattle.records.specs.Next.{recordFrom};
 use crate::answer::Next;
 use crate::answer::Record;
 use items::Item;
-use rawitems::Pairing;
-use rawitems::Pairs;
 use raw::pulse_raw::PulseRaw;
 use raw::window::WindowRaw;
+use rawitems::Pairing;
+use rawitems::Pairs;
 use scan::Scan;
 
 pub(crate) fn window_from(words: &[u32], from: usize, window: WindowRaw, scan: Scan) -> Next

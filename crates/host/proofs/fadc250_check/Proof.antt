@@ -6,9 +6,10 @@ use native.Mathlib.Omega.{arith}
 use borrow.Author.Tests.{ne-eqb}
 use borrow.Author.Needs.{needs}
 use lib.ListN.{drop-of-length-le, length, drop}
-use Rattle.reader.specs.Reader.{stepAt, onStep, endNumber, startOf, checkFrom}
+use Rattle.reader.specs.Reader.{stepAt, onStep, endNumber, checkFrom}
+use Rattle.scan.specs.After.{startOf}
 use Rattle.reader.specs.RunLaws.{end-by}
-use Rattle.reader.specs.declared.Scan.{Scan}
+use Rattle.scan.specs.declared.Scan.{Scan}
 use Rattle.reader.specs.declared.Step.{Step}
 use Rattle.host.specs.CheckLaws.{run-at, out-number, checked}
 use Rattle.fields.specs.Bytes.{wordsOfBytes}
@@ -24,22 +25,22 @@ abbrev μ-loop : tie.MeasureT-loop
 
 -- the run at the word that was read
 stepped : (c : tie.After-step Inv-loop μ-loop) {t : Step} → c .step .result ≡ t →
-    let l = c .before .before .before .before .before .before .before .loop in
-    let bytes = c .before .before .before .before .before .before .before .before .before .before .before .args .bytes .now in
+    let l = c .before .before .before .loop in
+    let bytes = c .before .before .before .before .before .before .before .args .bytes .now in
     checkFrom startOf (wordsOfBytes bytes) ≡ onStep t (l .scan .place) (λ u. checkFrom u (wordsOfBytes (drop (l .at + 4) bytes)))
 stepped c e =
-    let l = c .before .before .before .before .before .before .before .loop in
-    let bytes = c .before .before .before .before .before .before .before .before .before .before .before .args .bytes .now in
+    let l = c .before .before .before .loop in
+    let bytes = c .before .before .before .before .before .before .before .args .bytes .now in
     l .inv .1
-    ∙ run-at bytes (l .at) (l .scan) (omega arith) (c .step .ensures .answer ∙ ap (stepAt (l .scan)) (c .before .of-bytes .ensures)) e
+    ∙ run-at bytes (l .at) (l .scan) (omega arith) (c .step .ensures .answer ∙ ap (stepAt (l .scan)) (c .before .word-at .ensures)) e
 
 -- the bytes are whole words
-whole : (c : tie.After-step Inv-loop μ-loop) → length (c .before .before .before .before .before .before .before .before .before .before .before .args .bytes .now) % 4 ≡ 0
-whole c = c .before .before .before .before .before .before .before .before .before .if1 .left
+whole : (c : tie.After-step Inv-loop μ-loop) → length (c .before .before .before .before .before .before .before .args .bytes .now) % 4 ≡ 0
+whole c = c .before .before .before .before .before .if1 .left
 
 returns : tie.Need-returns Inv-loop μ-loop
 unfolding checkNumber
-returns c = rw (ne-eqb _ _ (c .before .if1 .taken)) (c .numbered .ensures)
+returns c = rw (ne-eqb _ _ (c .before .before .if1 .taken)) (c .numbered .ensures ∙ ap (λ (n : ℕ). n * 2 ^ 32 + 0) (c .before .number .ensures))
 
 loop-holds : tie.Need-loop-holds Inv-loop μ-loop
 loop-holds c = ((omega arith, refl), ap (λ (s : Scan). checkFrom s (wordsOfBytes (c .before .before .before .args .bytes .now))) (sym (c .start .ensures)))
@@ -63,6 +64,9 @@ returns-4 c =
     ∙ out-number (endNumber (l .scan)) (l .scan .place)
     ∙ checked bytes (c .before .before .before .before .before .if1 .left) (l .inv .1 ∙ ap (λ (x : List ℕ). checkFrom (l .scan) (wordsOfBytes x)) (drop-of-length-le bytes {i = l .at} (omega arith)) ∙ end-by (l .scan))
 
+word-at-requires : tie.Need-word-at-requires Inv-loop μ-loop
+word-at-requires c κs = omega arith
+
 pub fadc250-check-spec : {M : Type 1} → statement M
 fadc250-check-spec =
     tie.close
@@ -70,17 +74,11 @@ fadc250-check-spec =
     Inv-loop
     μ-loop
     (λ c κs. search needs)
+    (λ c κs. search needs)
     returns
     (λ c κs. search needs)
     loop-holds
-    (λ c. search needs)
-    (λ c. search needs)
-    (λ c. search needs)
-    (λ c. search needs)
-    (λ c. search needs)
-    (λ c. search needs)
-    (λ c. search needs)
-    (λ c κs. search needs)
+    word-at-requires
     (λ c κs. search needs)
     (λ c. search needs)
     (λ c. search needs)

@@ -1,0 +1,42 @@
+-- `numbers::load::state_from` meets its contract. Assumes nothing.
+use native.Mathlib.Omega.{arith}
+use borrow.Author.Needs.{needs}
+use Rattle.numbers.specs.Numbers.{headCount}
+use Rattle.numbers.specs.NumbersLaws.{state-count, state-settings-held, tail-part}
+use Rattle.numbers.specs.StoreLaws.{state-loaded}
+use Rattle.numbers.proofs.load.state_from.Statement.{statement}
+use Rattle.numbers.proofs.load.state_from.Tie as tie
+
+sub-settings-from : tie.Need-sub-settings-from
+sub-settings-from c = omega (arith, state-count _ (c .before .pre))
+
+settings-from-requires : tie.Need-settings-from-requires
+settings-from-requires c κs = rw (tail-part (c .before .before .args .numbers .now) headCount) (state-settings-held _ (c .before .before .pre))
+
+returns : tie.Need-returns
+returns c =
+    let block = c .before .before .before .before .before in
+    let phase = block .before .before .before in
+    let loaded = phase .before .before in
+    let start = loaded .before .before .before in
+    state-loaded (start .args .numbers .now) (start .pre) (loaded .settings-from .ensures) (phase .before .at .ensures) (phase .phase-from .ensures) (block .before .before .at2 .ensures) (block .before .marks-from .ensures) (block .at32 .ensures) (c .before .before .before .before .at322 .ensures) (c .before .before .before .at323 .ensures) (c .before .before .at3 .ensures) (c .before .at324 .ensures) (c .at4 .ensures)
+
+pub state-from-spec : {M : Type 1} → statement M
+state-from-spec =
+    tie.close
+    (tie.spec
+    sub-settings-from
+    sub-settings-from
+    (λ c. search needs)
+    settings-from-requires
+    (λ c κs. search needs)
+    (λ c κs. search needs)
+    (λ c κs. search needs)
+    (λ c κs. search needs)
+    (λ c κs. search needs)
+    (λ c κs. search needs)
+    (λ c κs. search needs)
+    (λ c κs. search needs)
+    (λ c κs. search needs)
+    (λ c κs. search needs)
+    returns)

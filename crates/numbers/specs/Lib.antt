@@ -1,0 +1,4 @@
+pub mod BackLaws
+pub mod Numbers
+pub mod NumbersLaws
+pub mod StoreLaws

@@ -1,0 +1,114 @@
+-- Loading and storing, part by part. Assumes nothing.
+use Prim.Native.Nat.{ℕ, _+_, _%_, _-_, _≤_, _<_}
+use mathlib.Core.Path.{_≡_, refl, sym, ap, ap₂, _∙_}
+use mathlib.Core.Bool.{Bool, true, false, _&&_}
+use mathlib.Core.List.{List, _∷_, [], _++_}
+use native.Mathlib.Omega.{arith}
+use borrow.Author.Tests.{lt-leb, le-leb, eq-eqb, ne-eqb}
+use lib.Dec.{eqb}
+use lib.ListN.{length, getD, take, drop, length-drop}
+use lib.Seq.{take-all}
+use Rattle.ground.specs.Splice.{splice}
+use Rattle.ground.specs.SpliceLaws.{splice-front, length-splice, row-same}
+use Rattle.settings.specs.declared.Settings.{Settings}
+use Rattle.state.specs.declared.Phase.{Phase}
+use Rattle.state.specs.declared.State.{State}
+use Rattle.state.specs.State.{blank}
+use Rattle.numbers.specs.Numbers.{modeAt, nwAt, plAt, nsbAt, nsaAt, limitAt, slotAt, parametersAt, timesAt, multipleAt, thresholdsAt, settingsCount, phaseAt, blockAt, eventsAt, eventAt, timeAt, marksAt, closedAt, wordsAt, headLimits, headCount, stateCount, heldIn, isSettings, isState, settingsFrom, phaseFrom, marksFrom, stateFrom, settingsIn, stateIn, phaseNumber, marksNumber, headOf, headStored, stateStored}
+use Rattle.numbers.specs.NumbersLaws.{settings-32, head-32, tail-part}
+
+-- ---- asking
+
+-- the two parts of a state's numbers, as the code cuts them
+pub state-asked : (n : List ℕ) {l : List ℕ} {h s : Bool} → l ≡ headLimits → h ≡ heldIn l (take headCount n) → s ≡ isSettings (take (length n - headCount) (drop headCount n)) → h && s ≡ isState n
+unfolding isState
+state-asked n e f g =
+    ap₂ _&&_ (f ∙ ap (λ (l : List ℕ). heldIn l (take headCount n)) e) (g ∙ ap isSettings (tail-part n headCount))
+
+-- ---- loading numbers that are held
+
+pub settings-loaded : (n : List ℕ) → isSettings n ≡ true → {mode nw pl nsb nsa limit slot parameters times multiple : ℕ} {thresholds : List ℕ}
+    → thresholds ≡ take 16 (drop thresholdsAt n)
+    → mode ≡ getD n modeAt 0 % 4294967296
+    → nw ≡ getD n nwAt 0
+    → pl ≡ getD n plAt 0 % 4294967296
+    → nsb ≡ getD n nsbAt 0
+    → nsa ≡ getD n nsaAt 0
+    → limit ≡ getD n limitAt 0
+    → slot ≡ getD n slotAt 0 % 4294967296
+    → parameters ≡ getD n parametersAt 0
+    → times ≡ getD n timesAt 0 % 4294967296
+    → multiple ≡ getD n multipleAt 0 % 4294967296
+    → record { mode = mode; nw = nw; pl = pl; nsb = nsb; nsa = nsa; limit = limit; thresholds = thresholds; slot = slot; parameters = eqb parameters 1; times = times; multiple = multiple } ≡ settingsFrom n
+unfolding settingsFrom
+settings-loaded n e ts m w p b a l s x i u =
+    let f = settings-32 n e in
+    rw (ts, m, w, p, b, a, l, s, x, i, u, f .mode, f .pl, f .slot, f .times, f .multiple)
+
+pub state-loaded : (n : List ℕ) → isState n ≡ true → {first block events event time marks closed words : ℕ} {phase : Phase} {posted : List Bool} {settings : Settings}
+    → settings ≡ settingsFrom (take (length n - headCount) (drop headCount n))
+    → first ≡ getD n phaseAt 0
+    → phase ≡ phaseFrom first
+    → marks ≡ getD n marksAt 0
+    → posted ≡ marksFrom marks
+    → block ≡ getD n blockAt 0 % 4294967296
+    → events ≡ getD n eventsAt 0 % 4294967296
+    → event ≡ getD n eventAt 0 % 4294967296
+    → time ≡ getD n timeAt 0
+    → closed ≡ getD n closedAt 0 % 4294967296
+    → words ≡ getD n wordsAt 0
+    → record { settings = settings; phase = phase; block = block; events = events; event = event; time = time; posted = posted; closed = closed; words = words } ≡ stateFrom n
+unfolding stateFrom
+state-loaded n e s p q m k b v w t c u =
+    let f = head-32 n e in
+    rw (s, q, p, k, m, b, v, w, t, c, u, tail-part n headCount, f .block, f .events, f .event, f .closed)
+
+-- ---- loading any numbers
+
+pub settings-held : (n : List ℕ) {s : Settings} → isSettings n ≡ true → s ≡ settingsFrom n → s ≡ settingsIn n
+settings-held n e f = rw e f
+
+pub settings-none : (n : List ℕ) {s : State} → isSettings n ≡ false → s ≡ blank → s .settings ≡ settingsIn n
+settings-none n e f = rw e (ap (λ (x : State). x .settings) f)
+
+pub state-held : (n : List ℕ) {s : State} → isState n ≡ true → s ≡ stateFrom n → s ≡ stateIn n
+state-held n e f = rw e f
+
+pub state-none : (n : List ℕ) {s : State} → isState n ≡ false → s ≡ blank → s ≡ stateIn n
+state-none n e f = rw e f
+
+-- ---- storing
+
+pub head-made : (s : State) {phase marks : ℕ} → phase ≡ phaseNumber (s .phase) → marks ≡ marksNumber (s .posted)
+    → phase ∷ s .block ∷ s .events ∷ s .event ∷ s .time ∷ marks ∷ s .closed ∷ s .words ∷ [] ≡ headOf s
+unfolding headOf
+head-made s p m = rw (p, m)
+
+pub head-short : (n : List ℕ) (s : State) → length n < headCount → n ≡ headStored n s
+head-short n s h = rw (lt-leb _ _ h)
+
+pub head-stored : (n : List ℕ) (s : State) {h n′ : List ℕ} → headCount ≤ length n → h ≡ headOf s → n′ ≡ splice n 0 h → n′ ≡ headStored n s
+head-stored n s k e f = rw (le-leb _ _ k) (f ∙ ap (splice n 0) e)
+
+-- the head over the front of those that are long enough
+pub head-over : (n : List ℕ) (s : State) → headCount ≤ length n → headStored n s ≡ headOf s ++ drop headCount n
+unfolding headOf
+head-over n s h = rw (le-leb _ _ h) (splice-front n (headOf s))
+
+pub state-other : (n : List ℕ) (s : State) (m : List ℕ) → (length n ≡ stateCount → ⊥) → n ≡ stateStored n s m
+state-other n s m h = rw (ne-eqb _ _ h)
+
+pub settings-other : (n : List ℕ) (s : State) (m : List ℕ) → length n ≡ stateCount → (length m ≡ settingsCount → ⊥) → n ≡ stateStored n s m
+settings-other n s m h k = rw (eq-eqb _ _ h, ne-eqb _ _ k)
+
+-- the settings behind the head, then the head over the front
+pub state-stored : (n : List ℕ) (s : State) (m : List ℕ) {p n′ : List ℕ} → length n ≡ stateCount → length m ≡ settingsCount
+    → p ≡ splice n headCount m → n′ ≡ headStored p s → n′ ≡ stateStored n s m
+state-stored n s m {p = p} h k e f =
+    let long : length p ≡ length n = ap length e ∙ length-splice n headCount m (omega arith) in
+    let rest : drop headCount p ≡ m =
+    sym (take-all (length m) (drop headCount p) (rw (length-drop headCount p) (omega arith)))
+    ∙ ap (λ (l : List ℕ). take (length m) (drop headCount l)) e
+    ∙ row-same n headCount m (omega arith)
+    in
+    rw (eq-eqb _ _ h, eq-eqb _ _ k) (f ∙ head-over p s (omega arith) ∙ ap (λ (l : List ℕ). headOf s ++ l) rest)

@@ -1,0 +1,128 @@
+// The settings and the state of numbers.
+ghost use mathlib.Core.Path.{_≡_};
+ghost use mathlib.Core.Bool.{true};
+ghost use Prim.Native.Nat.{_%_};
+ghost use lib.ListN.{getD, take, drop};
+ghost use Rattle.numbers.specs.Numbers.{thresholdsAt, isSettings, isState, settingsFrom, phaseFrom, marksFrom, stateFrom, settingsIn, stateIn};
+use crate::held::is_settings;
+use crate::held::is_state;
+use settings::Settings;
+use state::Phase;
+use state::State;
+
+// The number at a place, 0 past the end.
+fn at(numbers: &[u64], place: usize) -> u64
+    ensures { λ r. ⌜ r ≡ getD (now (numbers .entry)) place 0 ⌝ }
+{
+    if place < numbers.len() {
+        return numbers[place];
+    }
+    0
+}
+
+// The same as a 32-bit field: its low bits.
+fn at32(numbers: &[u64], place: usize) -> u32
+    ensures { λ r. ⌜ r ≡ getD (now (numbers .entry)) place 0 % 4294967296 ⌝ }
+{
+    (at(numbers, place) % 4294967296) as u32
+}
+
+fn thresholds_from(numbers: &[u64]) -> [u32; 16]
+    requires { ⌜ isSettings (now numbers) ≡ true ⌝ }
+    ensures { λ r. ⌜ r ≡ take 16 (drop thresholdsAt (now (numbers .entry))) ⌝ }
+{
+    let mut thresholds = [0u32; 16];
+    let mut channel: usize = 0;
+    while channel < 16 {
+        thresholds[channel] = at32(numbers, crate::THRESHOLDS + channel);
+        channel += 1;
+    }
+    thresholds
+}
+
+fn settings_from(numbers: &[u64]) -> Settings
+    requires { ⌜ isSettings (now numbers) ≡ true ⌝ }
+    ensures { λ r. ⌜ r ≡ settingsFrom (now (numbers .entry)) ⌝ }
+{
+    let thresholds = thresholds_from(numbers);
+    Settings {
+        mode: at32(numbers, crate::MODE),
+        nw: at(numbers, crate::NW) as usize,
+        pl: at32(numbers, crate::PL),
+        nsb: at(numbers, crate::NSB) as usize,
+        nsa: at(numbers, crate::NSA) as usize,
+        limit: at(numbers, crate::LIMIT) as usize,
+        thresholds,
+        slot: at32(numbers, crate::SLOT),
+        parameters: at(numbers, crate::PARAMETERS) == 1,
+        times: at32(numbers, crate::TIMES),
+        multiple: at32(numbers, crate::MULTIPLE),
+    }
+}
+
+// Numbers that are no settings give what stands for none.
+pub fn settings_in(numbers: &[u64]) -> Settings
+    ensures { λ r. ⌜ r ≡ settingsIn (now (numbers .entry)) ⌝ }
+{
+    if is_settings(numbers) {
+        return settings_from(numbers);
+    }
+    let none = state::no_state();
+    none.settings
+}
+
+// 0 idle, 1 in a block, 2 in an event.
+fn phase_from(number: u64) -> Phase
+    ensures { λ r. ⌜ r ≡ phaseFrom number ⌝ }
+{
+    if number == 0 {
+        return Phase::Idle;
+    }
+    if number == 1 {
+        return Phase::Block;
+    }
+    Phase::Event
+}
+
+// Channel c is posted where bit c is set.
+fn marks_from(number: u64) -> [bool; 16]
+    ensures { λ r. ⌜ r ≡ marksFrom number ⌝ }
+{
+    let mut marks = [false; 16];
+    let mut channel: usize = 0;
+    while channel < 16 {
+        marks[channel] = (number >> channel) % 2 == 1;
+        channel += 1;
+    }
+    marks
+}
+
+fn state_from(numbers: &[u64]) -> State
+    requires { ⌜ isState (now numbers) ≡ true ⌝ }
+    ensures { λ r. ⌜ r ≡ stateFrom (now (numbers .entry)) ⌝ }
+{
+    let settings = settings_from(&numbers[crate::HEAD..]);
+    let phase = phase_from(at(numbers, crate::PHASE));
+    let posted = marks_from(at(numbers, crate::MARKS));
+    State {
+        settings,
+        phase,
+        block: at32(numbers, crate::BLOCK),
+        events: at32(numbers, crate::EVENTS),
+        event: at32(numbers, crate::EVENT),
+        time: at(numbers, crate::TIME),
+        posted,
+        closed: at32(numbers, crate::CLOSED),
+        words: at(numbers, crate::WORDS) as usize,
+    }
+}
+
+// Numbers that are no state give what stands for none.
+pub fn state_in(numbers: &[u64]) -> State
+    ensures { λ r. ⌜ r ≡ stateIn (now (numbers .entry)) ⌝ }
+{
+    if is_state(numbers) {
+        return state_from(numbers);
+    }
+    state::no_state()
+}
