@@ -5,6 +5,7 @@ use mathlib.Core.Bool.{true}
 use mathlib.Core.List.{List}
 use native.Mathlib.Omega.{arith}
 use lib.ListN.{length, getD}
+use Rattle.limits.specs.Limits.{mostSamples}
 use Rattle.settings.specs.declared.Settings.{Settings}
 use Rattle.finder.specs.declared.Pulse.{Pulse}
 use Rattle.finder.specs.Find.{pulsesFrom, noPulse}
@@ -21,7 +22,7 @@ use Rattle.pulse.specs.Pulse.{integralItem, timeItem, pedestalItem}
 use Rattle.claims.specs.WrittenLaws.{integral-made, time-made, pedestal-made}
 use Rattle.claims.specs.FieldEnds.{PulseEnds}
 
-module _ (c i n : ℕ) (p : Pulse) (k : c ≤ 15) (j : i ≤ 3) (m : n ≤ 500) (f : PulseFits n p) where
+module _ (c i n : ℕ) (p : Pulse) (k : c ≤ 15) (j : i ≤ 3) (m : n ≤ mostSamples) (f : PulseFits n p) where
   ends : PulseEnds c i p
   unfolding wordOf fits integralItem timeItem pedestalItem integralOf timeOf pedestalOf
   ends =

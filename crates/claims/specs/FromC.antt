@@ -7,7 +7,7 @@ use lib.ListN.{take, drop}
 use Rattle.ground.specs.Splice.{splice}
 use Rattle.settings.specs.declared.Settings.{Settings}
 use Rattle.refusals.specs.Refusal.{numberOf}
-use Rattle.writer.specs.declared.Answer as A
+use Rattle.find.specs.declared.FindAnswer.{FindAnswer}
 use Rattle.find.specs.Call.{FindSays}
 use Rattle.items.specs.declared.Item.{Item}
 use Rattle.writer.specs.declared.Answer.{Answer}
@@ -47,7 +47,7 @@ pub record FinishCall (n words : List ℕ) (r : ℕ) (n′ words′ : List ℕ) 
 
 -- and of the finder: the numbers of the pulses that it answers
 pub record FindCall (settings : List ℕ) (c : ℕ) (w out : List ℕ) (r : ℕ) (out′ : List ℕ) : Type 0 where
-  pub answer : A.Answer
+  pub answer : FindAnswer
   pub said : FindSays (settingsFrom settings) c w answer
   pub number : numberOf (answer .refusal) ≡ r
   pub found : out′ ≡ ifAccepted r (splice out 0 (foundNumbers (answer .found))) out

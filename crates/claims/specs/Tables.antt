@@ -12,12 +12,12 @@ use Rattle.settings.specs.declared.Settings.{Settings}
 use Rattle.settings.specs.Ranges.{settingsOk}
 use Rattle.refusals.specs.Refusal.{numberOf}
 use Rattle.find.specs.Call.{findTable, findNumber, FindSays}
-use Rattle.writer.specs.declared.Answer as A
+use Rattle.find.specs.declared.FindAnswer.{FindAnswer}
 use Rattle.scan.specs.declared.Scan.{Scan}
 use Rattle.reader.specs.declared.Step.{Step}
 use Rattle.reader.specs.declared.Judged.{Judged}
-use Rattle.reader.specs.Reader.{formAt, endNumber}
-use Rattle.scan.specs.Meaning.{isEnd}
+use Rattle.reader.specs.Reader.{endNumber}
+use Rattle.scan.specs.Meaning.{meaningAt, isEnd}
 use Rattle.questions.specs.Questions.{refusals, refusalOf}
 use Rattle.reader.specs.Answers.{stepNumber, judgedNumber, numberAt, StepSays, JudgedSays}
 use Rattle.state.specs.declared.State.{State}
@@ -78,7 +78,7 @@ find-order s c w = refl
 pub end-order : (s : Scan) → rowNumbers (questions s []) ≡ 14 ∷ 11 ∷ []
 end-order s = refl
 
-pub read-order : (s : Scan) (word : ℕ) (words : List ℕ) → isEnd (formAt s word) ≡ false → rowNumbers (questions s (word ∷ words)) ≡ 14 ∷ 12 ∷ 15 ∷ 13 ∷ 14 ∷ []
+pub read-order : (s : Scan) (word : ℕ) (words : List ℕ) → isEnd (meaningAt s word) ≡ false → rowNumbers (questions s (word ∷ words)) ≡ 14 ∷ 12 ∷ 15 ∷ 13 ∷ 14 ∷ []
 read-order s word words h = rw h
 
 -- ---- exactly when
@@ -119,16 +119,16 @@ pub finish-exactly : (s : State) (words : List ℕ) (r : Finished) (words′ : L
 unfolding finishNumber
 finish-exactly s words r words′ h = exactly _ (h .refusal)
 
-pub find-exactly : (s : Settings) (c : ℕ) (w : List ℕ) (r : A.Answer) → FindSays s c w r → Exactly (findTable s c w) (numberOf (r .refusal))
+pub find-exactly : (s : Settings) (c : ℕ) (w : List ℕ) (r : FindAnswer) → FindSays s c w r → Exactly (findTable s c w) (numberOf (r .refusal))
 unfolding findNumber
 find-exactly s c w r h = exactly _ (h .refusal)
 
 -- a word, from any scan
 asked : (s : Scan) (word : ℕ) (words : List ℕ) → numberAt s word ≡ firstOf (questions s (word ∷ words))
 unfolding numberAt refusalOf firstOf
-asked s word words = go (isEnd (formAt s word))
+asked s word words = go (isEnd (meaningAt s word))
   where
-    go : (b : Bool) → cond b 0 (firstOf (refusals s (formAt s word) word)) ≡ firstOf (cond b [] (refusals s (formAt s word) word))
+    go : (b : Bool) → cond b 0 (firstOf (refusals s (meaningAt s word) word)) ≡ firstOf (cond b [] (refusals s (meaningAt s word) word))
     go true = refl
     go false = refl
 

@@ -6,14 +6,15 @@ use mathlib.Core.List.{List}
 use contract.Lifetimes.{Lfts}
 use denote.Ref.{RefT, now}
 use Rattle.settings.specs.declared.Settings.{Settings}
-use Rattle.finder.proofs as finder
-use Rattle.writer.specs.declared.Answer as F
+use Rattle.find.proofs as find
+use Rattle.find.specs.declared.FindAnswer.{FindAnswer}
 use Rattle.find.specs.Call.{FindSays}
 use Rattle.writer.proofs as writer
 use Rattle.state.specs.declared.State.{State}
 use Rattle.writer.specs.declared.Answer.{Answer}
 use Rattle.writer.specs.declared.Finished.{Finished}
 use Rattle.writer.specs.Calls.{SetUpSays, OpenBlockSays, OpenEventSays, PostSays, CloseSays, FinishSays}
+use Rattle.scan.proofs as scan
 use Rattle.reader.proofs as reader
 use Rattle.scan.specs.declared.Scan.{Scan}
 use Rattle.reader.specs.declared.Step.{Step}
@@ -65,8 +66,8 @@ pub finish-tied : (κs : Lfts 1) (state : State) (words words′ : Lent) (r : Fi
     → writer.finish.Reads.Learnt κs (state, (words, tt)) r (state, (words′, tt)) → FinishSays state (now words) r (now words′)
 finish-tied κs state words words′ r p = p
 
-pub find-tied : (κs : Lfts 1) (settings : Settings) (channel : ℕ) (window : Lent) (r : F.Answer)
-    → finder.find.Reads.Learnt κs (settings, (channel, (window, tt))) r (settings, (channel, (window, tt))) → FindSays settings channel (now window) r
+pub find-tied : (κs : Lfts 1) (settings : Settings) (channel : ℕ) (window : Lent) (r : FindAnswer)
+    → find.find.Reads.Learnt κs (settings, (channel, (window, tt))) r (settings, (channel, (window, tt))) → FindSays settings channel (now window) r
 find-tied κs settings channel window r p = p
 
 -- ---- the same from C
@@ -108,16 +109,16 @@ fadc250-check-tied κs bytes r p = p
 
 -- ---- reading
 
-pub scan-start-tied : (r : Scan) → reader.Scan.start.Reads.Learnt tt tt r tt → r ≡ startOf
+pub scan-start-tied : (r : Scan) → scan.Scan.start.Reads.Learnt tt tt r tt → r ≡ startOf
 scan-start-tied r p = p
 
-pub scan-step-tied : (self : Scan) (word : ℕ) (r : Step) → reader.Scan.step.Reads.Learnt tt (self, (word, tt)) r (self, (word, tt)) → StepSays self word r
+pub scan-step-tied : (self : Scan) (word : ℕ) (r : Step) → reader.step_at.Reads.Learnt tt (self, (word, tt)) r (self, (word, tt)) → StepSays self word r
 scan-step-tied self word r p = p
 
-pub scan-judge-tied : (self : Scan) (word : ℕ) (r : Judged) → reader.Scan.judge.Reads.Learnt tt (self, (word, tt)) r (self, (word, tt)) → JudgedSays self word r
+pub scan-judge-tied : (self : Scan) (word : ℕ) (r : Judged) → reader.judge_at.Reads.Learnt tt (self, (word, tt)) r (self, (word, tt)) → JudgedSays self word r
 scan-judge-tied self word r p = p
 
-pub scan-at-end-tied : (self : Scan) (r : ℕ) → reader.Scan.at_end.Reads.Learnt tt (self, tt) r (self, tt) → r ≡ endNumber self
+pub scan-at-end-tied : (self : Scan) (r : ℕ) → reader.at_end.Reads.Learnt tt (self, tt) r (self, tt) → r ≡ endNumber self
 scan-at-end-tied self r p = p
 
 pub next-tied : (κs : Lfts 1) (words : Lent) (scan : Scan) (r : Next) → records.next.Reads.Learnt κs (words, (scan, tt)) r (words, (scan, tt)) → NextSays (now words) scan r

@@ -31,8 +31,12 @@ use Rattle.items.proofs.Item as Item
 use Rattle.refusals.proofs as refusals
 use Rattle.samples.proofs as samples
 use Rattle.settings.proofs as settings
+use Rattle.search.proofs as search
 use Rattle.finder.proofs as finder
+use Rattle.find.proofs as find
 use Rattle.find.specs.CallLaws as F
+use Rattle.pairs.proofs as pairs
+use Rattle.pulse.proofs as pulse
 use Rattle.channel.proofs as channel
 use Rattle.event.proofs as event
 use Rattle.state.proofs as state
@@ -40,8 +44,11 @@ use Rattle.block.proofs as block
 use Rattle.refusing.proofs as refusing
 use Rattle.writer.proofs as writer
 use Rattle.writer.specs.UniqueLaws as W
-use Rattle.reader.proofs.Scan as Scan
+use Rattle.scan.proofs as scan
+use Rattle.questions.proofs as questions
+use Rattle.reader.proofs as reader
 use Rattle.rawitems.proofs as rawitems
+use Rattle.follow.proofs as follow
 use Rattle.records.proofs as records
 use Rattle.numbers.proofs as numbers
 use Rattle.host.proofs as host
@@ -49,6 +56,7 @@ use Rattle.host.specs.UniqueLaws as H
 use Rattle.text.proofs as text
 use Rattle.text.specs.Page.{Page}
 use Rattle.lines.proofs as lines
+use Rattle.entries.proofs as entries
 use Rattle.listing.proofs as listing
 use Rattle.listing.specs.RoomLaws.{one-listing}
 
@@ -325,28 +333,43 @@ fixed-unique κs a r s u v p q = by-equation p q
 
 -- ---- settings and finder
 
--- settings
+-- refusals
 pub number-unique : Unique refusals.number.ended refusals.number.Reads.Learnt
 number-unique κs a r s u v p q = by-equation p q
 
 pub accepted-unique : Unique refusals.accepted.ended refusals.accepted.Reads.Learnt
 accepted-unique κs a r s u v p q = by-equation p q
 
+-- samples
 pub amplitude-unique : Unique samples.amplitude.ended samples.amplitude.Reads.Learnt
 amplitude-unique κs a r s u v p q = by-equation (p .0) (q .0)
+
+pub sample-over-unique : Unique samples.over.ended samples.over.Reads.Learnt
+sample-over-unique κs a r s u v p q = by-equation p q
 
 pub samples-ok-unique : Unique samples.samples_ok.ended samples.samples_ok.Reads.Learnt
 samples-ok-unique κs a r s u v p q = by-equation p q
 
+-- settings
 pub in-range-unique : Unique settings.in_range.ended settings.in_range.Reads.Learnt
 in-range-unique κs a r s u v p q = by-equation p q
+
+-- search
+pub any-over-unique : Unique search.any_over.ended search.any_over.Reads.Learnt
+any-over-unique κs a r s u v p q = by-equation p q
+
+pub tc-from-unique : Unique search.tc_from.ended search.tc_from.Reads.Learnt
+tc-from-unique κs a r s u v p q = by-equation p q
+
+pub is-early-unique : Unique search.is_early.ended search.is_early.Reads.Learnt
+is-early-unique κs a r s u v p q = by-equation p q
 
 -- finder
 pub rule-number-unique : Unique finder.rule_number.ended finder.rule_number.Reads.Learnt
 rule-number-unique κs a r s u v p q = by-equation p q
 
-pub any-over-unique : Unique finder.any_over.ended finder.any_over.Reads.Learnt
-any-over-unique κs a r s u v p q = by-equation p q
+pub no-pulses-unique : Unique finder.no_pulses.ended finder.no_pulses.Reads.Learnt
+no-pulses-unique κs a r s u v p q = by-equation p q
 
 pub can-search-unique : Unique finder.can_search.ended finder.can_search.Reads.Learnt
 can-search-unique κs a r s u v p q = by-equation p q
@@ -354,12 +377,13 @@ can-search-unique κs a r s u v p q = by-equation p q
 pub pulses-of-unique : Unique finder.pulses_of.ended finder.pulses_of.Reads.Learnt
 pulses-of-unique κs a r s u v p q = by-equation p q
 
-pub find-unique : Unique finder.find.ended finder.find.Reads.Learnt
+-- find
+pub find-unique : Unique find.find.ended find.find.Reads.Learnt
 find-unique κs a r s u v p q = (F.find-unique _ _ _ _ _ p q, refl)
 
 -- ---- writing
 
--- channel
+-- items::put
 pub put-item-unique : Unique items.put.put_item.ended items.put.put_item.Reads.Learnt
 put-item-unique κs a r s u v p q = by-writing (u .1) p q
 
@@ -369,6 +393,21 @@ put-if-unique κs a r s u v p q = by-writing (u .1) p q
 pub room-short-unique : Unique items.put.room_short.ended items.put.room_short.Reads.Learnt
 room-short-unique κs a r s u v p q = by-equation p q
 
+-- pairs
+pub run-length-if-unique : Unique pairs.run_length_if.ended pairs.run_length_if.Reads.Learnt
+run-length-if-unique κs a r s u v p q = by-equation p q
+
+pub put-run-unique : Unique pairs.put_run.ended pairs.put_run.Reads.Learnt
+put-run-unique κs a r s u v p q = by-writing (u .1) p q
+
+-- pulse
+pub pulse-length-unique : Unique pulse.pulse_length.ended pulse.pulse_length.Reads.Learnt
+pulse-length-unique κs a r s u v p q = by-equation p q
+
+pub put-pulse-unique : Unique pulse.put_pulse.ended pulse.put_pulse.Reads.Learnt
+put-pulse-unique κs a r s u v p q = by-writing (u .1) p q
+
+-- channel
 pub put-channel-unique : Unique channel.put_channel.ended channel.put_channel.Reads.Learnt
 put-channel-unique κs a r s u v p q = by-writing (u .1) p q
 
@@ -457,22 +496,65 @@ finish-unique κs a r s u v p q = let e = W.finish-unique _ _ _ _ _ _ p q in (e 
 
 -- ---- reading
 
--- reader
-pub scan-start-unique : Unique Scan.start.ended Scan.start.Reads.Learnt
+-- scan
+pub scan-start-unique : Unique scan.Scan.start.ended scan.Scan.start.Reads.Learnt
 scan-start-unique κs a r s u v p q = by-equation p q
 
-pub scan-step-unique : Unique Scan.step.ended Scan.step.Reads.Learnt
-scan-step-unique κs a r s u v p q = by-equation (p .answer) (q .answer)
+pub next-place-unique : Unique scan.after.next_place.ended scan.after.next_place.Reads.Learnt
+next-place-unique κs a r s u v p q = by-equation p q
 
-pub scan-judge-unique : Unique Scan.judge.ended Scan.judge.Reads.Learnt
-scan-judge-unique κs a r s u v p q = by-equation (p .answer) (q .answer)
+pub window-paired-unique : Unique scan.after.window_paired.ended scan.after.window_paired.Reads.Learnt
+window-paired-unique κs a r s u v p q = by-equation p q
 
-pub scan-at-end-unique : Unique Scan.at_end.ended Scan.at_end.Reads.Learnt
-scan-at-end-unique κs a r s u v p q = by-equation p q
+pub moved-unique : Unique scan.after.moved.ended scan.after.moved.Reads.Learnt
+moved-unique κs a r s u v p q = by-equation p q
 
--- records; of `part`, whose answer is a reference, the words that it lends
+pub scan-after-unique : Unique scan.after.scan_after.ended scan.after.scan_after.Reads.Learnt
+scan-after-unique κs a r s u v p q = by-equation p q
+
+pub meaning-at-unique : Unique scan.word.meaning_at.ended scan.word.meaning_at.Reads.Learnt
+meaning-at-unique κs a r s u v p q = by-equation p q
+
+pub is-unfinished-unique : Unique scan.word.is_unfinished.ended scan.word.is_unfinished.Reads.Learnt
+is-unfinished-unique κs a r s u v p q = by-equation p q
+
+-- questions
+pub at-limit-unique : Unique questions.at_limit.ended questions.at_limit.Reads.Learnt
+at-limit-unique κs a r s u v p q = by-equation p q
+
+pub window-flag-wrong-unique : Unique questions.window_flag_wrong.ended questions.window_flag_wrong.Reads.Learnt
+window-flag-wrong-unique κs a r s u v p q = by-equation p q
+
+pub pair-bits-wrong-unique : Unique questions.pair_bits_wrong.ended questions.pair_bits_wrong.Reads.Learnt
+pair-bits-wrong-unique κs a r s u v p q = by-equation p q
+
+pub refusal-unique : Unique questions.refusal.ended questions.refusal.Reads.Learnt
+refusal-unique κs a r s u v p q = by-equation p q
+
+-- reader
+pub step-at-unique : Unique reader.step_at.ended reader.step_at.Reads.Learnt
+step-at-unique κs a r s u v p q = by-equation (p .answer) (q .answer)
+
+pub judge-at-unique : Unique reader.judge_at.ended reader.judge_at.Reads.Learnt
+judge-at-unique κs a r s u v p q = by-equation (p .answer) (q .answer)
+
+pub at-end-unique : Unique reader.at_end.ended reader.at_end.Reads.Learnt
+at-end-unique κs a r s u v p q = by-equation p q
+
+-- follow
+pub high-from-unique : Unique follow.high_from.ended follow.high_from.Reads.Learnt
+high-from-unique κs a r s u v p q = by-equation p q
+
+pub fill-from-unique : Unique follow.fill_from.ended follow.fill_from.Reads.Learnt
+fill-from-unique κs a r s u v p q = by-equation p q
+
+-- records
 pub next-unique : Unique records.next.ended records.next.Reads.Learnt
 next-unique κs a r s u v p q = by-equation (p .answer) (q .answer)
+
+-- rawitems; of `part`, whose answer is a reference, the words that it lends
+pub pairs-from-unique : Unique rawitems.pairs_from.ended rawitems.pairs_from.Reads.Learnt
+pairs-from-unique κs a r s u v p q = by-equation p q
 
 pub part-unique : (κs : Lfts 1) (a : Args (rawitems.part.ended .signature) κs) (r s : Res (rawitems.part.ended .signature) κs)
     → rawitems.part.Reads.Learnt κs a r a → rawitems.part.Reads.Learnt κs a s a → now r ≡ now s
@@ -573,6 +655,16 @@ put-refused-unique κs a r s u v p q = by-page (u .1) p q
 
 pub put-fill-unique : Unique lines.put_fill.ended lines.put_fill.Reads.Learnt
 put-fill-unique κs a r s u v p q = by-page (u .1) p q
+
+-- entries
+pub first-word-unique : Unique entries.first_word.ended entries.first_word.Reads.Learnt
+first-word-unique κs a r s u v p q = by-equation p q
+
+pub filler-in-unique : Unique entries.filler_in.ended entries.filler_in.Reads.Learnt
+filler-in-unique κs a r s u v p q = by-equation (p .0) (q .0)
+
+pub list-item-unique : Unique entries.list_item.ended entries.list_item.Reads.Learnt
+list-item-unique κs a r s u v p q = by-page (u .1) p q
 
 -- listing
 pub list-unique : Unique listing.list.ended listing.list.Reads.Learnt

@@ -7,6 +7,8 @@ use native.Mathlib.Omega.{arith}
 use borrow.Author.Tests.{le-leb}
 use lib.Dec.{leb, ltb}
 use lib.ListN.{length, getD, take, drop, length-take, length-drop}
+use Rattle.limits.specs.Limits.{mostSamples}
+use Rattle.limits.specs.LimitsLaws.{most-samples, pairs-is, most-pairs}
 use Rattle.ground.specs.TestsLaws.{Under, under, and-left, and-right}
 use Rattle.settings.specs.declared.Settings.{Settings}
 use Rattle.settings.specs.Ranges.{settingsOk}
@@ -113,22 +115,22 @@ pairs (x ∷ y ∷ r) u =
       widths = (both (le-leb x 8191 (u .0)) (le-leb y 8191 (u .1 .0)), m .widths);
     }
 
-window-made : (c : ℕ) (w : List ℕ) → c ≤ 15 → Under 8191 w → 1 ≤ length w → length w ≤ 500 → Pieces (windowItems c w)
+window-made : (c : ℕ) (w : List ℕ) → c ≤ 15 → Under 8191 w → 1 ≤ length w → length w ≤ mostSamples → Pieces (windowItems c w)
 unfolding windowItems fits R.window
 window-made c w k u m n =
     let q = pairs w u in
     one (window (record { channel = c; width = length w }) (q .tree)) (m, (n, q .fine .0)) (ap (λ (l : List Item). I.Window (record { channel = c; width = length w }) ∷ l) (q .are))
-    (both (le-leb c 15 k) (le-leb (length w) 4095 (omega arith)), q .widths)
+    (both (le-leb c 15 k) (le-leb (length w) 4095 (omega (arith, n, most-samples))), q .widths)
 
-raw-made : (c : ℕ) (w : List ℕ) (i : ℕ) (p : Pulse) → c ≤ 15 → i ≤ 3 → Under 8191 w → length w ≤ 500 → PulseFits (length w) p → Pieces (rawItems c w i p)
+raw-made : (c : ℕ) (w : List ℕ) (i : ℕ) (p : Pulse) → c ≤ 15 → i ≤ 3 → Under 8191 w → length w ≤ mostSamples → PulseFits (length w) p → Pieces (rawItems c w i p)
 unfolding rawItems fits R.pulseRaw
 raw-made c w i p k j u n f =
     let z : length (setOf w p) ≡ p .last + 1 - p .first = length-set w p f in
     let q = pairs (setOf w p) (under-set w p u) in
     one (raw (record { channel = c; pulse = i; tc = p .tc }) (q .tree))
-    (omega (arith, z, q .fine .1, f .first .0, f .last .1), q .fine .2 (omega (arith, z, f .first .1, f .last .0)))
+    (omega (arith, z, q .fine .1, f .first .0, f .last .1, n, most-samples, most-pairs), q .fine .2 (omega (arith, z, f .first .1, f .last .0)))
     (ap (λ (l : List Item). I.Raw (record { channel = c; pulse = i; tc = p .tc }) ∷ l) (q .are))
-    (both (le-leb c 15 k) (both (le-leb i 3 j) (le-leb (p .tc) 1023 (omega (arith, f .tc .1)))), q .widths)
+    (both (le-leb c 15 k) (both (le-leb i 3 j) (le-leb (p .tc) 1023 (omega (arith, f .tc .1, n, most-samples)))), q .widths)
 
 -- ---- what is measured
 
@@ -141,13 +143,13 @@ integral-made c i p k j =
     quality true = refl
     quality false = refl
 
-pub time-made : (high : Bool) (c i n : ℕ) (p : Pulse) → c ≤ 15 → i ≤ 3 → n ≤ 500 → PulseFits n p → Pieces (timeItem high c i p ∷ [])
+pub time-made : (high : Bool) (c i n : ℕ) (p : Pulse) → c ≤ 15 → i ≤ 3 → n ≤ mostSamples → PulseFits n p → Pieces (timeItem high c i p ∷ [])
 unfolding timeItem fits M.time
 time-made high c i n p k j m f = one (time _) tt refl (both (le-leb c 15 k) (both (le-leb i 3 j) (both (coarse high) (fine high))), tt)
   where
     coarse : (b : Bool) → leb (cond b (p .time .coarse) (p .tc)) 511 ≡ true
-    coarse true = le-leb (p .time .coarse) 511 (omega (arith, f .time .coarse .1))
-    coarse false = le-leb (p .tc) 511 (omega (arith, f .tc .1))
+    coarse true = le-leb (p .time .coarse) 511 (omega (arith, f .time .coarse .1, m, most-samples))
+    coarse false = le-leb (p .tc) 511 (omega (arith, f .tc .1, m, most-samples))
 
     fine : (b : Bool) → leb (cond b (p .time .fine) 0) 63 ≡ true
     fine true = le-leb (p .time .fine) 63 (f .time .fine)
@@ -161,19 +163,19 @@ pedestal-made c i n p k j f =
 
 -- ---- a pulse, pulses, a channel
 
-pulse-made : (m : Parts) (c : ℕ) (w : List ℕ) (i : ℕ) (p : Pulse) → c ≤ 15 → i ≤ 3 → Under 8191 w → length w ≤ 500 → PulseFits (length w) p → Pieces (pulseItems m c w i p)
+pulse-made : (m : Parts) (c : ℕ) (w : List ℕ) (i : ℕ) (p : Pulse) → c ≤ 15 → i ≤ 3 → Under 8191 w → length w ≤ mostSamples → PulseFits (length w) p → Pieces (pulseItems m c w i p)
 unfolding pulseItems
 pulse-made m c w i p k j u n f =
     join (given (m .raw) (raw-made c w i p k j u n f))
     (join (given (m .integral) (integral-made c i p k j))
     (join (given (m .time) (time-made (m .high) c i (length w) p k j n f)) (given (m .pedestal) (pedestal-made c i (length w) p k j f))))
 
-pulses-made : (m : Parts) (c : ℕ) (w : List ℕ) (i : ℕ) (l : List Pulse) → c ≤ 15 → i + length l ≤ 4 → Under 8191 w → length w ≤ 500 → EachFits (length w) l → Pieces (pulsesItems m c w i l)
+pulses-made : (m : Parts) (c : ℕ) (w : List ℕ) (i : ℕ) (l : List Pulse) → c ≤ 15 → i + length l ≤ 4 → Under 8191 w → length w ≤ mostSamples → EachFits (length w) l → Pieces (pulsesItems m c w i l)
 unfolding pulsesItems
 pulses-made m c w i [] k j u n f = none
 pulses-made m c w i (p ∷ l) k j u n f = join (pulse-made m c w i p k (omega arith) u n (f .0)) (pulses-made m c w (i + 1) l k (omega arith) u n (f .1))
 
-channel-made : (s : Settings) (t c : ℕ) (w : List ℕ) → settingsOk s ≡ true → c ≤ 15 → Under 8191 w → 1 ≤ length w → length w ≤ 500 → Pieces (channelItems (commonOf s) t c w)
+channel-made : (s : Settings) (t c : ℕ) (w : List ℕ) → settingsOk s ≡ true → c ≤ 15 → Under 8191 w → 1 ≤ length w → length w ≤ mostSamples → Pieces (channelItems (commonOf s) t c w)
 unfolding channelItems
 channel-made s t c w ok k u m n =
     let r : InRange s = settings-in-range s ok in

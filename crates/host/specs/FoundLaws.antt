@@ -7,20 +7,21 @@ use native.Mathlib.Omega.{arith}
 use borrow.Author.Tests.{eqb-true, lt-ltb, le-ltb}
 use lib.Dec.{eqb, ltb}
 use lib.ListN.{length, getD, replicate, length-append}
+use Rattle.limits.specs.Limits.{mostSamples}
+use Rattle.limits.specs.LimitsLaws.{most-samples}
 use Rattle.ground.specs.Splice.{splice}
 use Rattle.ground.specs.Tests.{firstOf}
 use Rattle.ground.specs.SpliceLaws.{splice-splice, length-splice}
 use Rattle.settings.specs.declared.Settings.{Settings}
 use Rattle.refusals.specs.Refusal.{numberOf}
 use Rattle.refusals.specs.declared.Refusal.the-variants as R
-use Rattle.writer.specs.declared.Answer.{Answer}
+use Rattle.find.specs.declared.FindAnswer.{FindAnswer}
 use Rattle.finder.specs.declared.Pulse.{Pulse}
 use Rattle.finder.specs.declared.Pulses.{Pulses}
 use Rattle.finder.specs.Find.{noPulse, packed}
 use Rattle.finder.specs.RangeLaws.{PulseFits, EachFits, fits-at, pulses-fit, pulses-count, packed-count, packed-at}
 use Rattle.find.specs.Call.{findTable, findNumber, channelPulses, foundPulses, FindSays}
-use Rattle.find.specs.CallLaws.{accepted}
-use Rattle.find.specs.CallLaws.{found-none, found-all}
+use Rattle.find.specs.CallLaws.{accepted, found-none, found-all}
 use Rattle.state.specs.State.{blank}
 use Rattle.numbers.specs.Numbers.{isSettings, settingsFrom, settingsIn}
 use Rattle.host.specs.Face.{onSettings, orElse, pulseNumbers, pulseCount, pulseRow, foundCount, foundNumbers, FindFace}
@@ -29,16 +30,16 @@ use Rattle.host.specs.Inner.{Small, AllSmall}
 
 -- ---- what is found is small
 
-fits-small : (n : ℕ) (p : Pulse) → n ≤ 500 → PulseFits n p → Small p
+fits-small : (n : ℕ) (p : Pulse) → n ≤ mostSamples → PulseFits n p → Small p
 fits-small n p h f =
     record {
-      tc = omega (arith, f .tc);
-      first = omega (arith, f .tc, f .first);
-      last = omega (arith, f .last);
-      coarse = omega (arith, f .time .coarse);
+      tc = omega (arith, f .tc, h, most-samples);
+      first = omega (arith, f .tc, f .first, h, most-samples);
+      last = omega (arith, f .last, h, most-samples);
+      coarse = omega (arith, f .time .coarse, h, most-samples);
     }
 
-packed-small : (n : ℕ) (l : List Pulse) → n ≤ 500 → length l ≤ 3 → EachFits n l → AllSmall (packed l)
+packed-small : (n : ℕ) (l : List Pulse) → n ≤ mostSamples → length l ≤ 3 → EachFits n l → AllSmall (packed l)
 packed-small n l h k e =
     record {
       count = rw (packed-count l) k;
@@ -57,7 +58,7 @@ pulses-small s c w = go (eqb (findNumber s c w) 0) refl
         (packed-small (length w) (channelPulses s c w) (omega (arith, a .long, a .settings .nw)) (omega (arith, pulses-count w t (s .nsb) (s .nsa) (s .limit) 0, a .settings .limit)) (pulses-fit w t (s .nsb) (s .nsa) (s .limit) 0 (a .settings .nsa .0)))
     go false e = rw (found-none s c w e) (packed-small 0 [] (omega arith) (omega arith) tt)
 
-pub found-small : (s : Settings) (c : ℕ) (w : List ℕ) (a : Answer) → FindSays s c w a → AllSmall (a .found)
+pub found-small : (s : Settings) (c : ℕ) (w : List ℕ) (a : FindAnswer) → FindSays s c w a → AllSmall (a .found)
 found-small s c w a d = rw (d .found) (pulses-small s c w)
 
 -- ---- the rows
@@ -107,7 +108,7 @@ find-out : (c : ℕ) (w : List ℕ) → findNumber (blank .settings) c w ≡ num
 unfolding findNumber findTable firstOf
 find-out c w = rw none-out
 
-module _ (m : List ℕ) (c : ℕ) (w out : List ℕ) {s : Settings} {a : Answer} (f : s ≡ settingsIn m) (d : FindSays s c w a) where
+module _ (m : List ℕ) (c : ℕ) (w out : List ℕ) {s : Settings} {a : FindAnswer} (f : s ≡ settingsIn m) (d : FindSays s c w a) where
   first-number : (later : ℕ) → orElse (onSettings m (findNumber (settingsFrom m) c w)) later ≡ orElse (numberOf (a .refusal)) later
   first-number later = ap (λ (k : ℕ). orElse k later) (sym (d .refusal ∙ ap (λ (x : Settings). findNumber x c w) f ∙ settings-number m (λ (x : Settings). findNumber x c w) (find-out c w)))
 

@@ -124,7 +124,7 @@ raw-inside n some (p ∷ q ∷ ps) s v c e l f =
 
 width-within : (r : WindowRaw) → 1 ≤ r .width → r .width ≤ mostSamples → R.windowWithin r ≡ true
 unfolding R.windowWithin
-width-within r a b = both (le-leb 1 (r .width) a) (le-leb (r .width) 500 (omega (arith, b, most-samples)))
+width-within r a b = both (le-leb 1 (r .width) a) (le-leb (r .width) mostSamples b)
 
 -- records that may stand wherever an item may, and leave the reading where the next may stand
 abbrev Fine : List Item → Type 0

@@ -301,7 +301,7 @@ width-of : (r : WindowRaw) → not (R.windowWithin r) ≡ false → (1 ≤ r .wi
 unfolding R.windowWithin
 width-of r h =
     let f = not-false _ h in
-    (leb-true 1 (r .width) (and-left _ _ f), omega (arith, most-samples, leb-true (r .width) 500 (and-right (leb 1 (r .width)) _ f)))
+    (leb-true 1 (r .width) (and-left _ _ f), leb-true (r .width) mostSamples (and-right (leb 1 (r .width)) _ f))
 
 none-left : (fs : List Filler) (xs : List Item) → length fs ≤ 0 → map (λ f. I.Filler f) fs ≡ xs → [] ≡ xs
 none-left [] xs l e = e
