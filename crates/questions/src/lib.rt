@@ -55,17 +55,10 @@ fn time_wrong(scan: Scan, high: u32) -> bool
     ensures { λ r. ⌜ r ≡ timeWrong scan high ⌝ }
 {
     let p = scan.stage;
-    match p {
-        Stage::Start => false,
-        Stage::Head => false,
-        Stage::Front => false,
-        Stage::Opened => false,
-        Stage::Timed(middle) => high % 8 != middle,
-        Stage::Items => false,
-        Stage::Window(_, _) => false,
-        Stage::Raw(_, _) => false,
-        Stage::Tail(_) => false,
+    if let Stage::Timed(middle) = p {
+        return high % 8 != middle;
     }
+    false
 }
 
 fn high_wrong(scan: Scan, word: u32) -> bool
@@ -96,17 +89,10 @@ fn flag_wrong(scan: Scan, flag: u32) -> bool
     ensures { λ r. ⌜ r ≡ flagWrong scan flag ⌝ }
 {
     let p = scan.stage;
-    match p {
-        Stage::Start => false,
-        Stage::Head => false,
-        Stage::Front => false,
-        Stage::Opened => false,
-        Stage::Timed(_) => false,
-        Stage::Items => false,
-        Stage::Window(n, odd) => window_flag_wrong(n, odd, flag),
-        Stage::Raw(_, _) => false,
-        Stage::Tail(_) => false,
+    if let Stage::Window(n, odd) = p {
+        return window_flag_wrong(n, odd, flag);
     }
+    false
 }
 
 // A pair's bits, where its second flag was compared.

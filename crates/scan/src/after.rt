@@ -66,15 +66,9 @@ fn pair_stage(scan: Scan, flag: u32) -> Stage
 {
     let p = scan.stage;
     match p {
-        Stage::Start => p,
-        Stage::Head => p,
-        Stage::Front => p,
-        Stage::Opened => p,
-        Stage::Timed(_) => p,
-        Stage::Items => p,
         Stage::Window(n, odd) => window_paired(n, odd),
         Stage::Raw(n, _) => raw_paired(n, flag),
-        Stage::Tail(_) => p,
+        _ => p,
     }
 }
 
@@ -82,17 +76,10 @@ fn filler_stage(scan: Scan) -> Stage
     ensures { λ r. ⌜ r ≡ filled scan ⌝ }
 {
     let p = scan.stage;
-    match p {
-        Stage::Start => p,
-        Stage::Head => p,
-        Stage::Front => p,
-        Stage::Opened => p,
-        Stage::Timed(_) => p,
-        Stage::Items => p,
-        Stage::Window(_, _) => p,
-        Stage::Raw(_, _) => p,
-        Stage::Tail(n) => Stage::Tail(less(n)),
+    if let Stage::Tail(n) = p {
+        return Stage::Tail(less(n));
     }
+    p
 }
 
 // Behind the block header: its slot, and the events that it states.

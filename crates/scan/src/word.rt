@@ -151,15 +151,8 @@ pub fn is_unfinished(scan: Scan) -> bool
     ensures { λ r. ⌜ r ≡ unfinished scan ⌝ }
 {
     let p = scan.stage;
-    match p {
-        Stage::Start => true,
-        Stage::Head => true,
-        Stage::Front => true,
-        Stage::Opened => true,
-        Stage::Timed(_) => true,
-        Stage::Items => true,
-        Stage::Window(_, _) => true,
-        Stage::Raw(_, _) => true,
-        Stage::Tail(_) => false,
+    if let Stage::Tail(_) = p {
+        return false;
     }
+    true
 }

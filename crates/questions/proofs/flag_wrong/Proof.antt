@@ -1,31 +1,35 @@
 -- `questions::flag_wrong` meets its contract.
+use Prim.Native.Nat.{ℕ}
+use mathlib.Core.Path.{_≡_, refl}
+use mathlib.Core.Bool.{false}
+use mathlib.Core.List.{[], _∷_}
+use types.Run.{OneOf, miss}
+use denote.Enum.Declared.{tagOf}
 use borrow.Author.Needs.{needs}
+use Rattle.scan.specs.declared.Stage.{Stage}
+use Rattle.scan.specs.declared.Stage.the-variants as P
+use Rattle.scan.proofs.Stage.{the-type}
+use Rattle.questions.specs.Questions.{flagBy}
 use Rattle.questions.proofs.flag_wrong.Statement.{statement}
 use Rattle.questions.proofs.flag_wrong.Tie as tie
 
-returns-7 : tie.Need-returns-7
-returns-7 c = cc
+returns : tie.Need-returns
+returns c = rw (c .before .before .p .given .1) (c .window-flag-wrong .ensures)
+
+-- nothing is wrong elsewhere
+other : (p : Stage) (k : ℕ) → OneOf (0 ∷ 1 ∷ 2 ∷ 3 ∷ 4 ∷ 5 ∷ 7 ∷ 8 ∷ []) (tagOf the-type p) → false ≡ flagBy p k
+other P.Start k o = refl
+other P.Head k o = refl
+other P.Front k o = refl
+other P.Opened k o = refl
+other (P.Timed d) k o = refl
+other P.Items k o = refl
+other (P.Window n odd) k o = absurd (miss (0 ∷ 1 ∷ 2 ∷ 3 ∷ 4 ∷ 5 ∷ 7 ∷ 8 ∷ []) 6 tt o)
+other (P.Raw n some) k o = refl
+other (P.Tail n) k o = refl
+
+returns-2 : tie.Need-returns-2
+returns-2 c = other (c .before .args .scan .stage) (c .before .args .flag) (c .match .keys2)
 
 pub flag-wrong-spec : {M : Type 1} → statement M
-flag-wrong-spec =
-    tie.close
-    (tie.spec
-    (λ c. search needs)
-    (λ c. search needs)
-    (λ c. search needs)
-    (λ c. search needs)
-    (λ c. search needs)
-    (λ c. search needs)
-    (λ c. search needs)
-    (λ c κs. search needs)
-    (λ c. search needs)
-    (λ c. search needs)
-    (λ c. search needs)
-    (λ c. search needs)
-    (λ c. search needs)
-    (λ c. search needs)
-    (λ c. search needs)
-    (λ c. search needs)
-    returns-7
-    (λ c. search needs)
-    (λ c. search needs))
+flag-wrong-spec = tie.close (tie.spec (λ c. search needs) (λ c κs. tt) returns returns-2)
