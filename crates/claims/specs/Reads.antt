@@ -28,5 +28,5 @@ pub data Reads (words : List ℕ) : Scan → List Item → ℕ → Type 0 where
 
 -- a proof that computes opens this file and what it leans on by one name
 unfoldable pub allOpen : Unit {0}
-unfolding Rattle.items.specs.Items.allOpen Rattle.reader.specs.Reader.allOpen Rattle.rawitems.specs.Pairs.allOpen Rattle.records.specs.Next.allOpen
+unfolding Rattle.items.specs.Items.allOpen Rattle.scan.specs.After.allOpen Rattle.rawitems.specs.Pairs.allOpen Rattle.records.specs.Next.allOpen
 allOpen = tt

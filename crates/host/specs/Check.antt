@@ -21,5 +21,5 @@ checkNumber bytes = cond (eqb (length bytes % 4) 0) (numberOfOut (checkFrom star
 
 -- a proof that computes opens this file and what it leans on by one name
 unfoldable pub allOpen : Unit {0}
-unfolding checkNumber Rattle.fields.specs.Bytes.allOpen Rattle.reader.specs.Reader.allOpen
+unfolding checkNumber Rattle.fields.specs.Bytes.allOpen Rattle.reader.specs.Reader.allOpen Rattle.scan.specs.After.allOpen
 allOpen = tt
