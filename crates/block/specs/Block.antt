@@ -1,6 +1,6 @@
 -- What a block has around its events: document 01, "One event, one store", as lists of records. Assumes nothing.
 use Prim.Native.Nat.{ℕ, _+_, _-_, _%_}
-use mathlib.Core.List.{List, [], _∷_}
+use mathlib.Core.List.{List, _∷_}
 use lib.ListN.{replicate}
 use Rattle.settings.specs.declared.Settings.{Settings}
 use Rattle.items.specs.Items.{itemIf}

@@ -1,5 +1,4 @@
 // One event, one store: the state of a run and the six calls that change it.
-ghost use mathlib.Core.Path.{_≡_};
 ghost use Rattle.writer.specs.Calls.{SetUpSays, OpenBlockSays, OpenEventSays, PostSays, CloseSays, FinishSays};
 
 mod put;

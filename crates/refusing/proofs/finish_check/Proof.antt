@@ -3,7 +3,6 @@ use Prim.Native.Nat.{ℕ}
 use mathlib.Core.Path.{sym}
 use mathlib.Core.Bool.{Bool}
 use mathlib.Core.List.{List}
-use borrow.Author.Needs.{needs}
 use lib.ListN.{drop}
 use Rattle.ground.specs.Tests.{FirstIs, no-row, this-row, later-row}
 use Rattle.ground.specs.TestsLaws.{is-first}

@@ -4,10 +4,8 @@ use native.Mathlib.Omega.{arith}
 use borrow.Author.Needs.{needs}
 use borrow.Author.Tests.{eqb-true, not-true, not-false}
 use lib.ListN.{length}
-use Rattle.ground.specs.Splice.{Written}
-use Rattle.items.specs.Items.{wordsOf}
 use Rattle.state.specs.State.{withClosed}
-use Rattle.refusing.specs.Tables.{closingItems, beforeRoom, closeNumber}
+use Rattle.refusing.specs.Tables.{closingItems, beforeRoom}
 use Rattle.refusing.specs.RoomLaws.{refused-before}
 use Rattle.writer.specs.CallsLaws.{next-place}
 use Rattle.writer.specs.CloseLaws.{in-event, no-room, had-room}
