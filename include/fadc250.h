@@ -5,8 +5,8 @@
    fadc250_find looks for the pulses of one window.
 
    No function allocates, keeps anything between two calls or touches anything that was not lent to it. All that a run knows is in the
-   state, FADC250_STATE numbers that the host keeps, may copy and may hand to another thread. Every array goes with its length in elements; the
-   arrays of one call must not overlap. A length may be 0, and the pointer must then still not be NULL.
+   state, FADC250_STATE numbers that the host keeps, may copy and may hand to another thread. Every array goes with its length in
+   elements; the arrays of one call must not overlap. A length may be 0, and the pointer must then still not be NULL.
 
    Every call answers a number: 0 it is accepted, else why it is refused. A refused call changes nothing that was lent. If a call is to
    be refused for more than one reason, the answer is the first of them in the order 10, 7, 8, 4, 5, 6, 2, 3, 9. */
@@ -31,7 +31,7 @@ enum fadc250_refusal {
     FADC250_POSTED = 6,       /* post: the channel was already posted in this event */
     FADC250_OUT_OF_TURN = 7,  /* not the phase for this call; an event more than the block states; finish before the last of them */
     FADC250_BAD_NUMBER = 8,   /* block number over 1023, events not 1 to 255, event number over 4194303, time over 2^48 - 1 */
-    FADC250_SHORT_WORDS = 9,  /* the word buffer is too short for all that the call writes; find: fewer than FADC250_FOUND numbers are lent */
+    FADC250_SHORT_WORDS = 9,  /* the word buffer is too short for all that the call writes; find: fewer than FADC250_FOUND numbers */
     FADC250_BAD_STATE = 10    /* not FADC250_STATE numbers, or not numbers that a call can have left */
 };
 
