@@ -1,19 +1,10 @@
--- What private functions of an event say and ask; no public contract cites it. Assumes nothing.
-use Prim.Native.Nat.{ℕ, _+_, _*_, _≤_}
-use mathlib.Core.Path.{_≡_}
-use mathlib.Core.Bool.{Bool, true}
+-- What private functions of an event say; no public contract cites it. Assumes nothing.
+use Prim.Native.Nat.{ℕ, _+_}
+use mathlib.Core.Bool.{Bool}
 use mathlib.Core.List.{List}
 use lib.ListN.{length}
-use Rattle.limits.specs.Limits.{channels}
 use Rattle.settings.specs.declared.Settings.{Settings}
-use Rattle.settings.specs.Ranges.{settingsOk}
 use Rattle.event.specs.Event.{channelsItems}
-
--- settings in range, a mark for each of up to sixteen channels, and a store that has sixteen rows
-pub record Lent (s : Settings) (posted : List Bool) (store : List ℕ) : Type 0 where
-  pub settings : settingsOk s ≡ true
-  pub marks : length posted ≤ channels
-  pub rows : channels * s .nw ≤ length store
 
 -- the words of an event, without the words: header, time words, channels
 unfoldable pub eventLength : Settings → List Bool → List ℕ → ℕ

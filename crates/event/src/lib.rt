@@ -3,10 +3,9 @@ use framing::event_header::EventHeader;
 use framing::trigger_time::TriggerTime;
 use framing::trigger_time_high::TriggerTimeHigh;
 use items::Item;
-use limits::CHANNELS;
 use settings::Settings;
 ghost use mathlib.Core.Path.{_≡_};
-ghost use mathlib.Core.Bool.{true, cond, not, _&&_, _||_};
+ghost use mathlib.Core.Bool.{true, cond, _&&_};
 ghost use mathlib.Core.List.{[]};
 ghost use Prim.Native.Nat.{_+_, _-_, _*_, _^_, _≤_};
 ghost use lib.Dec.{leb, ltb};
@@ -14,62 +13,17 @@ ghost use lib.ListN.{length};
 ghost use Rattle.ground.specs.Splice.{Written, WrittenIf};
 ghost use Rattle.limits.specs.Limits.{mostSamples};
 ghost use Rattle.settings.specs.Ranges.{settingsOk};
-ghost use Rattle.samples.specs.Sample.{samplesOk};
+ghost use Rattle.rows.specs.Rows.{lentOk};
+ghost use Rattle.rows.specs.Inner.{Lent};
 ghost use Rattle.items.specs.Items.{wordsOf};
 ghost use Rattle.channel.specs.Channel.{commonOf, channelItems};
-ghost use Rattle.event.specs.Event.{lentOk, rowsOk, timeItems, channelsItems, eventItems};
-ghost use Rattle.event.specs.Inner.{Lent, eventLength};
+ghost use Rattle.event.specs.Event.{timeItems, channelsItems, eventItems};
+ghost use Rattle.event.specs.Inner.{eventLength};
 
 // A time has 48 bits: three of the first time word above its lowest 24, and the second word's 24.
 const TIME_MAX: u64 = 281474976710655;
 
 const BIT_24: u64 = 16777216;
-
-// What is lent is enough for an event: settings in range, at most sixteen marks, sixteen rows. The quotient cannot wrap, whatever NW says.
-fn lent(settings: Settings, posted: &[bool], store: &[u16]) -> bool
-    ensures { λ r. ⌜ r ≡ lentOk settings (now (posted .entry)) (now (store .entry)) ⌝ }
-{
-    let good = settings::in_range(settings);
-    good & (posted.len() <= CHANNELS) & (settings.nw <= store.len() / CHANNELS)
-}
-
-// A posted channel's row has no sample over the greatest; no other row is looked at.
-fn row_ok(posted: bool, row: &[u16]) -> bool
-    ensures { λ r. ⌜ r ≡ (not posted || samplesOk (now (row .entry))) ⌝ }
-{
-    if posted {
-        samples::samples_ok(row)
-    } else {
-        true
-    }
-}
-
-// The same of every posted channel.
-fn posted_ok(settings: Settings, posted: &[bool], store: &[u16]) -> bool
-    requires { ⌜ Lent settings (now posted) (now store) ⌝ }
-    ensures { λ r. ⌜ r ≡ rowsOk (settings .nw) (now (store .entry)) 0 (now (posted .entry)) ⌝ }
-{
-    let nw = settings.nw;
-    let mut good = true;
-    let mut channel = 0;
-    while channel < posted.len() {
-        let start = channel * nw;
-        let end = start + nw;
-        good = good & row_ok(posted[channel], &store[start..end]);
-        channel += 1;
-    }
-    good
-}
-
-// What is lent is enough for an event, and no posted row has a sample over the greatest.
-pub fn rows_ok(settings: Settings, posted: &[bool], store: &[u16]) -> bool
-    ensures { λ r. ⌜ r ≡ (lentOk settings (now (posted .entry)) (now (store .entry)) && rowsOk (settings .nw) (now (store .entry)) 0 (now (posted .entry))) ⌝ }
-{
-    if lent(settings, posted, store) {
-        return posted_ok(settings, posted, store);
-    }
-    false
-}
 
 // The words of a channel if it is posted.
 fn put_posted(
@@ -229,7 +183,7 @@ pub fn put_event(
 ) -> usize
     ensures { λ r. ⌜ WrittenIf (lentOk settings (now (posted .entry)) (now (store .entry)) && leb time (2 ^ 48 - 1)) (now (words .entry)) at (wordsOf (eventItems settings number time (now (posted .entry)) (now (store .entry)))) r (now (words .exit)) ⌝ }
 {
-    if !(lent(settings, posted, store) & (time <= TIME_MAX)) {
+    if !(rows::lent(settings, posted, store) & (time <= TIME_MAX)) {
         return at;
     }
     if event_short(words.len(), at, settings, posted, store) {

@@ -7,7 +7,8 @@ use borrow.Author.Needs.{needs}
 use lib.ListN.{length, drop}
 use Rattle.limits.specs.LimitsLaws.{most-channel}
 use Rattle.event.specs.Event.{channelsItems}
-use Rattle.event.specs.EventLaws.{row-inside, row-short, part-row, count-turn, count-end, channels-most}
+use Rattle.rows.specs.RowsLaws.{row-inside, row-short, part-row}
+use Rattle.event.specs.EventLaws.{count-turn, count-end, channels-most}
 use Rattle.event.proofs.channels_length.Statement.{statement}
 use Rattle.event.proofs.channels_length.Tie as tie
 

@@ -6,7 +6,8 @@ use lib.ListN.{length, drop}
 use Rattle.ground.specs.WritingLaws.{Left, left-all}
 use Rattle.items.specs.Items.{wordsOf}
 use Rattle.event.specs.Event.{channelsItems}
-use Rattle.event.specs.EventLaws.{row-inside, row-short, part-row, channel-room, channel-less, channel-none}
+use Rattle.rows.specs.RowsLaws.{row-inside, row-short, part-row}
+use Rattle.event.specs.EventLaws.{channel-room, channel-less, channel-none}
 use Rattle.event.proofs.put_channels.Statement.{statement}
 use Rattle.event.proofs.put_channels.Tie as tie
 

@@ -9,9 +9,12 @@ use lib.ListN.{length}
 use Rattle.ground.specs.TestsLaws.{and-left, and-right}
 use Rattle.ground.specs.WritingLaws.{not-asked}
 use Rattle.items.specs.ItemsLaws.{put-wrote, put-nothing}
-use Rattle.event.specs.Event.{lentOk, eventItems}
-use Rattle.event.specs.Inner.{Lent, eventLength}
-use Rattle.event.specs.EventLaws.{lent-says, length-event}
+use Rattle.rows.specs.Rows.{lentOk}
+use Rattle.event.specs.Event.{eventItems}
+use Rattle.rows.specs.Inner.{Lent}
+use Rattle.event.specs.Inner.{eventLength}
+use Rattle.rows.specs.RowsLaws.{lent-says}
+use Rattle.event.specs.EventLaws.{length-event}
 use Rattle.event.proofs.put_event.Statement.{statement}
 use Rattle.event.proofs.put_event.Tie as tie
 

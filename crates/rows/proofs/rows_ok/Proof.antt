@@ -1,9 +1,9 @@
--- `event::rows_ok` meets its contract: the rows are looked at only where the store holds them.
+-- `rows::rows_ok` meets its contract: the rows are looked at only where the store holds them.
 use mathlib.Core.Path.{sym, _∙_}
 use borrow.Author.Needs.{needs}
-use Rattle.event.specs.EventLaws.{lent-says}
-use Rattle.event.proofs.rows_ok.Statement.{statement}
-use Rattle.event.proofs.rows_ok.Tie as tie
+use Rattle.rows.specs.RowsLaws.{lent-says}
+use Rattle.rows.proofs.rows_ok.Statement.{statement}
+use Rattle.rows.proofs.rows_ok.Tie as tie
 
 posted-ok-requires : tie.Need-posted-ok-requires
 posted-ok-requires c κs = lent-says _ _ _ (sym (c .before .lent .ensures) ∙ c .if1 .taken)

@@ -1,12 +1,12 @@
--- `event::lent` meets its contract: nw ≤ floor (room / 16) is 16 x nw ≤ room.
+-- `rows::lent` meets its contract: nw ≤ floor (room / 16) is 16 x nw ≤ room.
 use Prim.Native.Nat.{_*_, _/_}
 use native.Mathlib.Omega.{arith}
 use borrow.Author.Needs.{needs}
 use lib.ListN.{length}
 use Rattle.ground.specs.TestsLaws.{same-test}
-use Rattle.event.specs.Event.{lentOk}
-use Rattle.event.proofs.lent.Statement.{statement}
-use Rattle.event.proofs.lent.Tie as tie
+use Rattle.rows.specs.Rows.{lentOk}
+use Rattle.rows.proofs.lent.Statement.{statement}
+use Rattle.rows.proofs.lent.Tie as tie
 
 returns : tie.Need-returns
 unfolding lentOk

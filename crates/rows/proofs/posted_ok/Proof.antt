@@ -1,13 +1,13 @@
--- `event::posted_ok` meets its contract: the rows tested and those left are all.
+-- `rows::posted_ok` meets its contract: the rows tested and those left are all.
 use Prim.Native.Nat.{_-_, _≤_}
 use mathlib.Core.Path.{_≡_, refl}
 use mathlib.Core.Bool.{_&&_}
 use native.Mathlib.Omega.{arith}
 use lib.ListN.{length, drop}
-use Rattle.event.specs.Event.{rowsOk}
-use Rattle.event.specs.EventLaws.{row-inside, part-row, rows-turn, rows-end}
-use Rattle.event.proofs.posted_ok.Statement.{statement}
-use Rattle.event.proofs.posted_ok.Tie as tie
+use Rattle.rows.specs.Rows.{rowsOk}
+use Rattle.rows.specs.RowsLaws.{row-inside, part-row, rows-turn, rows-end}
+use Rattle.rows.proofs.posted_ok.Statement.{statement}
+use Rattle.rows.proofs.posted_ok.Tie as tie
 
 abbrev Inv-loop : tie.InvT-loop
 Inv-loop posted store nw good₀ channel₀ good channel = (channel ≤ length posted) × (good && rowsOk nw store channel (drop channel posted) ≡ rowsOk nw store 0 posted)

@@ -1,6 +1,6 @@
--- `event::row_ok` meets its contract.
-use Rattle.event.proofs.row_ok.Statement.{statement}
-use Rattle.event.proofs.row_ok.Tie as tie
+-- `rows::row_ok` meets its contract.
+use Rattle.rows.proofs.row_ok.Statement.{statement}
+use Rattle.rows.proofs.row_ok.Tie as tie
 
 returns : tie.Need-returns
 returns c = rw (c .before .if1 .taken) (c .samples-ok .ensures)
