@@ -16,8 +16,10 @@ use Rattle.settings.specs.declared.Settings.{Settings}
 use Rattle.items.specs.declared.Item.{Item}
 use Rattle.items.specs.declared.Item.the-variants as I
 use Rattle.channel.specs.Channel.{commonOf, channelItems}
-use Rattle.event.specs.Event.{row, timeItems, channelsItems, eventItems}
-use Rattle.event.specs.EventLaws.{row-end, channelAt, channels-step, channels-end}
+use Rattle.rows.specs.Rows.{row}
+use Rattle.event.specs.Event.{timeItems, channelsItems, eventItems}
+use Rattle.rows.specs.RowsLaws.{row-end}
+use Rattle.event.specs.EventLaws.{channelAt, channels-step, channels-end}
 use Rattle.state.specs.declared.State.{State}
 use Rattle.state.specs.State.{noMarks, withEvent, withMark}
 use Rattle.refusing.specs.Tables.{closingItems}

@@ -18,7 +18,7 @@ use Rattle.rawitems.specs.Pairs.{partOf}
 use Rattle.scan.specs.declared.Scan.{Scan}
 use Rattle.pulse.specs.Pulse.{setOf}
 use Rattle.channel.specs.Channel.{commonOf, pulsesOf}
-use Rattle.event.specs.Event.{row}
+use Rattle.rows.specs.Rows.{row}
 use Rattle.state.specs.declared.State.{State}
 use Rattle.claims.specs.Reads.{Reads, at-end, took}
 use Rattle.claims.specs.Run.{Run, opened, begun, posted, closed, not-closed, not-opened, not-finished}

@@ -29,7 +29,8 @@ use Rattle.pulse.specs.declared.Parts.{Parts}
 use Rattle.pairs.specs.Pairs.{pairItems}
 use Rattle.channel.specs.Channel.{windowItems, modeTable, rowOfMode, partsOf, pulsesItems, commonOf, pulsesOf, channelItems}
 use Rattle.pulse.specs.Pulse.{setOf, rawItems, integralItem, timeItem, pedestalItem, pulseItems}
-use Rattle.event.specs.Event.{row, rowsOk, timeItems, channelsItems, eventItems}
+use Rattle.rows.specs.Rows.{row, rowsOk}
+use Rattle.event.specs.Event.{timeItems, channelsItems, eventItems}
 use Rattle.state.specs.declared.State.{State}
 use Rattle.writer.specs.declared.Finished.{Finished}
 use Rattle.block.specs.Block.{blockItems, fillersTo, endItems}

@@ -38,6 +38,7 @@ use Rattle.find.specs.CallLaws as F
 use Rattle.pairs.proofs as pairs
 use Rattle.pulse.proofs as pulse
 use Rattle.channel.proofs as channel
+use Rattle.rows.proofs as rows
 use Rattle.event.proofs as event
 use Rattle.state.proofs as state
 use Rattle.block.proofs as block
@@ -414,10 +415,14 @@ put-channel-unique κs a r s u v p q = by-writing (u .1) p q
 pub channel-length-unique : Unique channel.channel_length.ended channel.channel_length.Reads.Learnt
 channel-length-unique κs a r s u v p q = by-equation p q
 
--- event
-pub rows-ok-unique : Unique event.rows_ok.ended event.rows_ok.Reads.Learnt
+-- rows
+pub lent-unique : Unique rows.lent.ended rows.lent.Reads.Learnt
+lent-unique κs a r s u v p q = by-equation p q
+
+pub rows-ok-unique : Unique rows.rows_ok.ended rows.rows_ok.Reads.Learnt
 rows-ok-unique κs a r s u v p q = by-equation p q
 
+-- event
 pub put-event-unique : Unique event.put_event.ended event.put_event.Reads.Learnt
 put-event-unique κs a r s u v p q = by-writing (u .1) p q
 

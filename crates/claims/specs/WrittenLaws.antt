@@ -29,8 +29,9 @@ use Rattle.pairs.specs.Pairs.{pairItems}
 use Rattle.channel.specs.Channel.{windowItems, partsOf, pulsesItems, commonOf, pulsesOf, channelItems}
 use Rattle.pulse.specs.Pulse.{setOf, rawItems, integralItem, timeItem, pedestalItem, pulseItems}
 use Rattle.pulse.specs.PulseLaws.{length-set}
-use Rattle.event.specs.Event.{row, rowsOk, timeItems, channelsItems, eventItems}
-use Rattle.event.specs.EventLaws.{row-end}
+use Rattle.rows.specs.Rows.{row, rowsOk}
+use Rattle.event.specs.Event.{timeItems, channelsItems, eventItems}
+use Rattle.rows.specs.RowsLaws.{row-end}
 use Rattle.layout.specs.PassLaws.{both}
 use Rattle.layout.specs.Grammar.{Piece, window, raw, integral, time, pedestal, Clock, no-clock, clock27, clock48, eachPair, pieceOf, piecesOf, clockOf, eventOf, Each, BothValid, OddEnd, full, short, WindowPairs, RawPairs, PieceOk, ClockOk, EventOk, Widths}
 

@@ -30,5 +30,5 @@ eventItems s number time posted store =
 
 -- a proof that computes opens this file and what it leans on by one name
 unfoldable pub allOpen : Unit {0}
-unfolding row lentOk rowsOk timeItems channelsItems eventItems Rattle.ground.specs.Tests.allOpen Rattle.limits.specs.Limits.allOpen Rattle.settings.specs.Ranges.allOpen Rattle.samples.specs.Sample.allOpen Rattle.items.specs.Items.allOpen Rattle.channel.specs.Channel.allOpen
+unfolding timeItems channelsItems eventItems Rattle.rows.specs.Rows.allOpen Rattle.items.specs.Items.allOpen Rattle.channel.specs.Channel.allOpen
 allOpen = tt

@@ -10,7 +10,8 @@ use Rattle.settings.specs.Ranges.{settingsOk}
 use Rattle.samples.specs.Sample.{samplesOk}
 use Rattle.items.specs.declared.Item.{Item}
 use Rattle.block.specs.Block.{blockItems, endItems}
-use Rattle.event.specs.Event.{rowsOk, eventItems}
+use Rattle.rows.specs.Rows.{rowsOk}
+use Rattle.event.specs.Event.{eventItems}
 use Rattle.state.specs.declared.State.{State}
 use Rattle.state.specs.State.{blockOk, eventOk, stateOk, isIdle, isBlock, isEvent}
 
@@ -99,5 +100,5 @@ finishNumber s room = firstOf (finishTable s room)
 
 -- a proof that computes opens this file and what it leans on by one name
 unfoldable pub allOpen : Unit {0}
-unfolding setUpNumber openBlockTable openBlockNumber openEventTable openEventNumber postTable postNumber closeTable closeNumber beforeRoom finishTable finishNumber Rattle.ground.specs.Tests.allOpen Rattle.settings.specs.Ranges.allOpen Rattle.samples.specs.Sample.allOpen Rattle.block.specs.Block.allOpen Rattle.event.specs.Event.allOpen Rattle.state.specs.State.allOpen
+unfolding setUpNumber openBlockTable openBlockNumber openEventTable openEventNumber postTable postNumber closeTable closeNumber beforeRoom finishTable finishNumber Rattle.ground.specs.Tests.allOpen Rattle.settings.specs.Ranges.allOpen Rattle.samples.specs.Sample.allOpen Rattle.block.specs.Block.allOpen Rattle.rows.specs.Rows.allOpen Rattle.event.specs.Event.allOpen Rattle.state.specs.State.allOpen
 allOpen = tt

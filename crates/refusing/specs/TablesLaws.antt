@@ -9,7 +9,7 @@ use Rattle.ground.specs.TestsLaws.{or-none, none}
 use Rattle.settings.specs.declared.Settings.{Settings}
 use Rattle.settings.specs.Ranges.{settingsOk}
 use Rattle.samples.specs.Sample.{samplesOk}
-use Rattle.event.specs.Event.{rowsOk}
+use Rattle.rows.specs.Rows.{rowsOk}
 use Rattle.block.specs.Block.{blockItems, endItems}
 use Rattle.state.specs.declared.State.{State}
 use Rattle.state.specs.State.{blockOk, eventOk, stateOk, isIdle, isBlock, isEvent}

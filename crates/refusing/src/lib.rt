@@ -106,7 +106,7 @@ pub fn close_check(s: State, store: &[u16]) -> Refusal
     if store_short(store.len(), settings.nw) {
         return Refusal::Store;
     }
-    if !event::rows_ok(settings, &posted, store) {
+    if !rows::rows_ok(settings, &posted, store) {
         return Refusal::Sample;
     }
     Refusal::None

@@ -22,3 +22,8 @@ lentOk s posted store = allOf (settingsOk s ∷ leb (length posted) channels ∷
 unfoldable pub rowsOk : ℕ → List ℕ → ℕ → List Bool → Bool
 rowsOk nw store c [] = true
 rowsOk nw store c (posted ∷ more) = (not posted || samplesOk (row nw c store)) && rowsOk nw store (c + 1) more
+
+-- a proof that computes opens this file and what it leans on by one name
+unfoldable pub allOpen : Unit {0}
+unfolding row lentOk rowsOk Rattle.ground.specs.Tests.allOpen Rattle.limits.specs.Limits.allOpen Rattle.settings.specs.Ranges.allOpen Rattle.samples.specs.Sample.allOpen
+allOpen = tt

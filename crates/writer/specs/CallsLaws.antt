@@ -9,7 +9,7 @@ use Rattle.ground.specs.Splice.{Written}
 use Rattle.items.specs.Items.{wordsOf}
 use Rattle.items.specs.declared.Item.{Item}
 use Rattle.items.specs.ItemsLaws.{length-words}
-use Rattle.event.specs.EventLaws.{row-end}
+use Rattle.rows.specs.RowsLaws.{row-end}
 use Rattle.state.specs.declared.State.{State}
 use Rattle.refusing.specs.TablesLaws.{PostAccepted}
 use Rattle.writer.specs.Calls.{ifAccepted, rowStart}

@@ -11,9 +11,10 @@ use Rattle.ground.specs.Splice.{Written, WrittenIf}
 use Rattle.ground.specs.WritingLaws.{written, moved, stayed, unwritten}
 use Rattle.items.specs.Items.{wordsOf}
 use Rattle.items.specs.ItemsLaws.{length-words}
-use Rattle.event.specs.Event.{lentOk, eventItems}
-use Rattle.event.specs.Inner.{Lent}
-use Rattle.event.specs.EventLaws.{lent-enough}
+use Rattle.rows.specs.Rows.{lentOk}
+use Rattle.event.specs.Event.{eventItems}
+use Rattle.rows.specs.Inner.{Lent}
+use Rattle.rows.specs.RowsLaws.{lent-enough}
 use Rattle.state.specs.declared.State.{State}
 use Rattle.state.specs.StateLaws.{EventSays, event-says, state-settings}
 use Rattle.refusing.specs.Tables.{closingItems, closeNumber, beforeRoom}

@@ -9,9 +9,9 @@ use borrow.Author.Needs.{needs}
 use lib.ListN.{length, take, drop}
 use Rattle.ground.specs.Tests.{FirstIs, no-row, this-row, later-row}
 use Rattle.ground.specs.TestsLaws.{is-first}
-use Rattle.event.specs.Event.{rowsOk}
-use Rattle.event.specs.Inner.{Lent}
-use Rattle.event.specs.EventLaws.{lent-enough}
+use Rattle.rows.specs.Rows.{rowsOk}
+use Rattle.rows.specs.Inner.{Lent}
+use Rattle.rows.specs.RowsLaws.{lent-enough}
 use Rattle.state.specs.State.{stateOk}
 use Rattle.state.specs.StateLaws.{state-settings}
 use Rattle.refusing.specs.Tables.{closeTable, beforeRoom}
