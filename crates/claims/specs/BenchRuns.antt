@@ -18,7 +18,7 @@ use Rattle.writer.specs.declared.Finished.{Finished}
 use Rattle.state.specs.State.{idle, withBlock, withEvent, withMark, withClosed}
 use Rattle.writer.specs.Calls.{OpenBlockSays, OpenEventSays, PostSays, CloseSays, FinishSays}
 use Rattle.listing.specs.Listing.{listingOf}
-use Rattle.host.specs.Check.{numberOfOut}
+use Rattle.bytecheck.specs.Check.{numberOfOut}
 use Rattle.layout.specs.NothingLost.{AllWords}
 use Rattle.layout.specs.Grammar.{Each}
 use Rattle.claims.specs.Bytes.{bytesOfWords, bytesOfLines}

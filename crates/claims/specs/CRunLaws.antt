@@ -15,7 +15,7 @@ use Rattle.writer.specs.declared.Finished.{Finished}
 use Rattle.writer.specs.Calls.{OpenEventSays, CloseSays, FinishSays}
 use Rattle.block.specs.Block.{endItems}
 use Rattle.writer.specs.CallsLaws.{done}
-use Rattle.host.specs.Check.{checkNumber}
+use Rattle.bytecheck.specs.Check.{checkNumber}
 use Rattle.numbers.specs.Numbers.{isState, table, marksFrom, stateFrom, numbersOf}
 use Rattle.host.specs.Face.{onState, FinishFace}
 use Rattle.numbers.specs.BackLaws.{Loads, numbers-back}

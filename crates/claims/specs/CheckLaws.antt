@@ -12,7 +12,7 @@ use Rattle.fields.specs.BytesLaws.{bytes-back}
 use Rattle.items.specs.declared.Item.{Item}
 use Rattle.scan.specs.After.{startOf}
 use Rattle.reader.specs.Reader.{checkFrom}
-use Rattle.host.specs.Check.{numberOfOut, checkNumber}
+use Rattle.bytecheck.specs.Check.{numberOfOut, checkNumber}
 use Rattle.state.specs.declared.State.{State}
 use Rattle.writer.specs.declared.Finished.{Finished}
 use Rattle.writer.specs.Calls.{FinishSays}

@@ -13,7 +13,7 @@ use Rattle.items.specs.declared.Item.{Item}
 use Rattle.scan.specs.After.{startOf}
 use Rattle.reader.specs.Reader.{Out, Whole, Broken, Reading, readFrom, checkFrom}
 use Rattle.reader.specs.RunLaws.{check-reads}
-use Rattle.host.specs.Check.{numberOfOut, checkNumber}
+use Rattle.bytecheck.specs.Check.{numberOfOut, checkNumber}
 use Rattle.text.specs.Line.{Line, textOf}
 use Rattle.text.specs.LineLaws.{text-append}
 use Rattle.lines.specs.Lines.{refusedLine}

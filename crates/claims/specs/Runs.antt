@@ -20,7 +20,7 @@ use Rattle.writer.specs.declared.Answer.{Answer}
 use Rattle.writer.specs.declared.Finished.{Finished}
 use Rattle.writer.specs.Calls.{SetUpSays, OpenBlockSays, OpenEventSays, PostSays, CloseSays, FinishSays}
 use Rattle.block.specs.Block.{blockItems, endItems}
-use Rattle.host.specs.Check.{checkNumber}
+use Rattle.bytecheck.specs.Check.{checkNumber}
 use Rattle.listing.specs.Listing.{listingOf}
 use Rattle.claims.specs.Bytes.{bytesOfWords, bytesOfLines}
 use Rattle.claims.specs.Reads.{Reads}
@@ -228,5 +228,5 @@ pub record Holds (r : BenchRun) : Type 0 where
 
 -- a proof that computes opens this file and what it leans on by one name
 unfoldable pub allOpen : Unit {0}
-unfolding settingsOf rows asBench Rattle.finder.specs.Find.allOpen Rattle.find.specs.Call.allOpen Rattle.reader.specs.Reader.allOpen Rattle.scan.specs.After.allOpen Rattle.channel.specs.Channel.allOpen Rattle.event.specs.Event.allOpen Rattle.writer.specs.Calls.allOpen Rattle.block.specs.Block.allOpen Rattle.host.specs.Check.allOpen Rattle.listing.specs.Listing.allOpen Rattle.claims.specs.Bytes.allOpen Rattle.claims.specs.Reads.allOpen
+unfolding settingsOf rows asBench Rattle.finder.specs.Find.allOpen Rattle.find.specs.Call.allOpen Rattle.reader.specs.Reader.allOpen Rattle.scan.specs.After.allOpen Rattle.channel.specs.Channel.allOpen Rattle.event.specs.Event.allOpen Rattle.writer.specs.Calls.allOpen Rattle.block.specs.Block.allOpen Rattle.bytecheck.specs.Check.allOpen Rattle.listing.specs.Listing.allOpen Rattle.claims.specs.Bytes.allOpen Rattle.claims.specs.Reads.allOpen
 allOpen = tt

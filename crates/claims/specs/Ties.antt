@@ -29,7 +29,7 @@ use Rattle.rawitems.specs.declared.Pairs.{Pairs}
 use Rattle.rawitems.specs.Pairs.{partOf}
 use Rattle.records.specs.Answers.{NextSays}
 use Rattle.host.proofs as host
-use Rattle.host.specs.Check.{checkNumber}
+use Rattle.bytecheck.specs.Check.{checkNumber}
 use Rattle.host.specs.Face.{SetUpFace, OpenBlockFace, OpenEventFace, PostFace, CloseFace, FinishFace, FindFace}
 use Rattle.listing.proofs as listing
 use Rattle.listing.specs.declared.Listed.{Listed}

@@ -52,6 +52,7 @@ use Rattle.rawitems.proofs as rawitems
 use Rattle.follow.proofs as follow
 use Rattle.records.proofs as records
 use Rattle.numbers.proofs as numbers
+use Rattle.bytecheck.proofs as bytecheck
 use Rattle.host.proofs as host
 use Rattle.host.specs.UniqueLaws as H
 use Rattle.text.proofs as text
@@ -561,6 +562,10 @@ next-unique κs a r s u v p q = by-equation (p .answer) (q .answer)
 pub pairs-from-unique : Unique rawitems.pairs_from.ended rawitems.pairs_from.Reads.Learnt
 pairs-from-unique κs a r s u v p q = by-equation p q
 
+-- bytecheck
+pub check-bytes-unique : Unique bytecheck.check_bytes.ended bytecheck.check_bytes.Reads.Learnt
+check-bytes-unique κs a r s u v p q = by-equation p q
+
 pub part-unique : (κs : Lfts 1) (a : Args (rawitems.part.ended .signature) κs) (r s : Res (rawitems.part.ended .signature) κs)
     → rawitems.part.Reads.Learnt κs a r a → rawitems.part.Reads.Learnt κs a s a → now r ≡ now s
 part-unique κs a r s p q = one-result p q
@@ -634,8 +639,8 @@ put-clock-unique κs a r s u v p q = by-page (u .1) p q
 pub put-window-unique : Unique lines.put_window.ended lines.put_window.Reads.Learnt
 put-window-unique κs a r s u v p q = by-page (u .1) p q
 
-pub put-pulse-unique : Unique lines.put_pulse.ended lines.put_pulse.Reads.Learnt
-put-pulse-unique κs a r s u v p q = by-page (u .1) p q
+pub lines-put-pulse-unique : Unique lines.put_pulse.ended lines.put_pulse.Reads.Learnt
+lines-put-pulse-unique κs a r s u v p q = by-page (u .1) p q
 
 pub put-pair-unique : Unique lines.put_pair.ended lines.put_pair.Reads.Learnt
 put-pair-unique κs a r s u v p q = by-page (u .1) p q

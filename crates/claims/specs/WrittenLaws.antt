@@ -126,7 +126,7 @@ window-made c w k u m n =
 raw-made : (c : ℕ) (w : List ℕ) (i : ℕ) (p : Pulse) → c ≤ 15 → i ≤ 3 → Under 8191 w → length w ≤ mostSamples → PulseFits (length w) p → Pieces (rawItems c w i p)
 unfolding rawItems fits R.pulseRaw
 raw-made c w i p k j u n f =
-    let z : length (setOf w p) ≡ p .last + 1 - p .first = length-set w p f in
+    let z : length (setOf w p) ≡ p .last + 1 - p .first = length-set w p (f .first .0) (f .last .1) in
     let q = pairs (setOf w p) (under-set w p u) in
     one (raw (record { channel = c; pulse = i; tc = p .tc }) (q .tree))
     (omega (arith, z, q .fine .1, f .first .0, f .last .1, n, most-samples, most-pairs), q .fine .2 (omega (arith, z, f .first .1, f .last .0)))

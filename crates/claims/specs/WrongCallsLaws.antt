@@ -19,7 +19,7 @@ use Rattle.reader.specs.RunLaws.{before, check-reads}
 use Rattle.records.specs.declared.answer.Next.the-variants as N
 use Rattle.records.specs.Next.{nextAt}
 use Rattle.records.specs.NextLaws.{Taken, SaysNext, next-says}
-use Rattle.host.specs.Check.{numberOfOut, checkNumber}
+use Rattle.bytecheck.specs.Check.{numberOfOut, checkNumber}
 use Rattle.layout.specs.FirstWrong.{placeOf, place-counts, place-small}
 use Rattle.layout.specs.Wrong.{questions, stopOf, WrongAt, WrongBy}
 use Rattle.layout.specs.WrongLaws.{wrong-from, first-wrong, stop-says}

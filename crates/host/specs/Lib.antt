@@ -1,5 +1,3 @@
-pub mod Check
-pub mod CheckLaws
 pub mod Face
 pub mod FaceLaws
 pub mod FoundLaws

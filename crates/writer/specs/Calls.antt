@@ -77,5 +77,5 @@ pub record FinishSays (s : State) (words : List ℕ) (r : Finished) (words′ : 
 
 -- a proof that computes opens this file and what it leans on by one name
 unfoldable pub allOpen : Unit {0}
-unfolding Rattle.items.specs.Items.allOpen Rattle.block.specs.Block.allOpen Rattle.state.specs.State.allOpen Rattle.refusing.specs.Tables.allOpen
+unfolding Rattle.ground.specs.Splice.allOpen Rattle.items.specs.Items.allOpen Rattle.block.specs.Block.allOpen Rattle.state.specs.State.allOpen Rattle.refusing.specs.Tables.allOpen
 allOpen = tt

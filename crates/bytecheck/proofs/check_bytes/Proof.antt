@@ -1,4 +1,4 @@
--- `host::fadc250_check` meets its contract.
+-- `bytecheck::check_bytes` meets its contract.
 use Prim.Native.Nat.{ℕ, _+_, _*_, _^_, _≤_, _%_, _-_}
 use mathlib.Core.Path.{refl, sym, ap, _∙_, _≡_}
 use mathlib.Core.List.{List}
@@ -11,11 +11,11 @@ use Rattle.scan.specs.After.{startOf}
 use Rattle.reader.specs.RunLaws.{end-by}
 use Rattle.scan.specs.declared.Scan.{Scan}
 use Rattle.reader.specs.declared.Step.{Step}
-use Rattle.host.specs.CheckLaws.{run-at, out-number, checked}
+use Rattle.bytecheck.specs.CheckLaws.{run-at, out-number, checked}
 use Rattle.fields.specs.Bytes.{wordsOfBytes}
-use Rattle.host.specs.Check.{checkNumber}
-use Rattle.host.proofs.fadc250_check.Statement.{statement}
-use Rattle.host.proofs.fadc250_check.Tie as tie
+use Rattle.bytecheck.specs.Check.{checkNumber}
+use Rattle.bytecheck.proofs.check_bytes.Statement.{statement}
+use Rattle.bytecheck.proofs.check_bytes.Tie as tie
 
 abbrev Inv-loop : tie.InvT-loop
 Inv-loop bytes scan₀ at₀ scan at = ((at ≤ length bytes) × (at % 4 ≡ 0)) × (checkFrom startOf (wordsOfBytes bytes) ≡ checkFrom scan (wordsOfBytes (drop at bytes)))
@@ -24,7 +24,7 @@ abbrev μ-loop : tie.MeasureT-loop
 μ-loop bytes scan₀ at₀ scan at = length bytes - at
 
 -- the run at the word that was read
-stepped : (c : tie.After-step Inv-loop μ-loop) {t : Step} → c .step .result ≡ t →
+stepped : (c : tie.After-step-at Inv-loop μ-loop) {t : Step} → c .step-at .result ≡ t →
     let l = c .before .before .before .loop in
     let bytes = c .before .before .before .before .before .before .before .args .bytes .now in
     checkFrom startOf (wordsOfBytes bytes) ≡ onStep t (l .scan .place) (λ u. checkFrom u (wordsOfBytes (drop (l .at + 4) bytes)))
@@ -32,10 +32,10 @@ stepped c e =
     let l = c .before .before .before .loop in
     let bytes = c .before .before .before .before .before .before .before .args .bytes .now in
     l .inv .1
-    ∙ run-at bytes (l .at) (l .scan) (omega arith) (c .step .ensures .answer ∙ ap (stepAt (l .scan)) (c .before .word-at .ensures)) e
+    ∙ run-at bytes (l .at) (l .scan) (omega arith) (c .step-at .ensures .answer ∙ ap (stepAt (l .scan)) (c .before .word-at .ensures)) e
 
 -- the bytes are whole words
-whole : (c : tie.After-step Inv-loop μ-loop) → length (c .before .before .before .before .before .before .before .args .bytes .now) % 4 ≡ 0
+whole : (c : tie.After-step-at Inv-loop μ-loop) → length (c .before .before .before .before .before .before .before .args .bytes .now) % 4 ≡ 0
 whole c = c .before .before .before .before .before .if1 .left
 
 returns : tie.Need-returns Inv-loop μ-loop
@@ -46,10 +46,10 @@ loop-holds : tie.Need-loop-holds Inv-loop μ-loop
 loop-holds c = ((omega arith, refl), ap (λ (s : Scan). checkFrom s (wordsOfBytes (c .before .before .before .args .bytes .now))) (sym (c .start .ensures)))
 
 loop-again : tie.Need-loop-again Inv-loop μ-loop
-loop-again c = ((omega arith, omega arith), stepped (c .before .before .before) (c .before .step2 .given .1))
+loop-again c = ((omega arith, omega arith), stepped (c .before .before .before) (c .before .step .given .1))
 
 returns-2 : tie.Need-returns-2 Inv-loop μ-loop
-returns-2 c = c .numbered2 .ensures ∙ checked _ (whole (c .before .before .before .before)) (stepped (c .before .before .before .before) (c .before .before .step3 .given .1))
+returns-2 c = c .numbered2 .ensures ∙ checked _ (whole (c .before .before .before .before)) (stepped (c .before .before .before .before) (c .before .before .step2 .given .1))
 
 returns-3 : tie.Need-returns-3 Inv-loop μ-loop
 returns-3 c = c .numbered3 .ensures ∙ out-number 0 _ ∙ checked _ (whole (c .before .before .before)) (stepped (c .before .before .before) (c .before .enum-told .given .1))
@@ -67,8 +67,8 @@ returns-4 c =
 word-at-requires : tie.Need-word-at-requires Inv-loop μ-loop
 word-at-requires c κs = omega arith
 
-pub fadc250-check-spec : {M : Type 1} → statement M
-fadc250-check-spec =
+pub check-bytes-spec : {M : Type 1} → statement M
+check-bytes-spec =
     tie.close
     (tie.spec
     Inv-loop

@@ -13,8 +13,8 @@ use Rattle.scan.specs.After.{startOf}
 use Rattle.reader.specs.RunLaws.{cons-at, check-at}
 use Rattle.scan.specs.declared.Scan.{Scan}
 use Rattle.reader.specs.declared.Step.{Step}
-use Rattle.host.specs.Check.{numberOfOut, checkNumber}
-use Rattle.host.specs.Inner.{wordAt}
+use Rattle.bytecheck.specs.Check.{numberOfOut, checkNumber}
+use Rattle.bytecheck.specs.Inner.{wordAt}
 
 words-at : (bytes : List ℕ) (i : ℕ) → i + 4 ≤ length bytes → wordsOfBytes (drop i bytes) ≡ wordAt bytes i ∷ wordsOfBytes (drop (i + 4) bytes)
 words-at bytes i h = ap wordsOfBytes four
