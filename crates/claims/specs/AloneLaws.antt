@@ -35,7 +35,7 @@ use Rattle.writer.specs.CallsLaws.{done}
 use Rattle.refusing.specs.TablesLaws.{close-accepted}
 use Rattle.claims.specs.Order.{Bench, Post}
 use Rattle.claims.specs.OrderLaws.{run-posts}
-use Rattle.claims.specs.Own.{EventRun, settingsIn, windowOf, closedWords, channelTypes, isOwn, ofChannel, wordsFor}
+use Rattle.claims.specs.Own.{EventRun, settingsIn, postedWindow, closedWords, channelTypes, isOwn, ofChannel, wordsFor}
 use Rattle.claims.specs.OwnLaws.{windowFor, itemsFor, ownItems, window-out, own-records}
 
 -- ---- whose a word is
@@ -253,7 +253,7 @@ closed-words e =
     ∙ row-same (e .words) (s .words) (wordsOf xs) (omega (arith, a .fit))
 
 -- channel c's words are those of its own posted window
-own-by : (e : EventRun) (c : ℕ) → wordsFor e c ≡ wordsOf (itemsFor (settingsIn e) c (windowOf (e .answers) c))
+own-by : (e : EventRun) (c : ℕ) → wordsFor e c ≡ wordsOf (itemsFor (settingsIn e) c (postedWindow (e .answers) c))
 own-by e c =
     let b = e .start in
     let r = run-posts (e .apart) (e .posted) in
@@ -261,17 +261,17 @@ own-by e c =
     ap (ofChannel c false) (closed-words e ∙ ap wordsOf (ap (λ (t : Bench). closingItems (t .state) (t .store)) (r .0) ∙ own-records b (e .posts) (e .opened) (e .apart)))
     ∙ (head-part c (b .state .settings .slot) (b .state .event) (b .state .settings .times) (b .state .time) xs
     ∙ (own-picked (b .state .settings) (windowFor b (e .posts)) c (window-out b (e .posts) c)
-    ∙ ap (λ (ns : List (Post × ℕ)). wordsOf (itemsFor (b .state .settings) c (windowOf ns c))) (sym (r .1))))
+    ∙ ap (λ (ns : List (Post × ℕ)). wordsOf (itemsFor (b .state .settings) c (postedWindow ns c))) (sym (r .1))))
 
 -- ---- the demand
 
 -- "a channel's words depend on its own posted window, its own threshold and the common settings": they are the words of these
-pub own-words : (e : EventRun) (c : ℕ) (w : List ℕ) → windowOf (e .answers) c ≡ w ∷ []
+pub own-words : (e : EventRun) (c : ℕ) (w : List ℕ) → postedWindow (e .answers) c ≡ w ∷ []
     → wordsFor e c ≡ channelWords (commonOf (settingsIn e)) (getD (settingsIn e .thresholds) c 0) c w
 own-words e c w k = own-by e c ∙ ap (λ (ws : List (List ℕ)). wordsOf (itemsFor (settingsIn e) c ws)) k
 
 -- "A channel with no posted window has no words."
-pub no-window : (e : EventRun) (c : ℕ) → windowOf (e .answers) c ≡ [] → wordsFor e c ≡ []
+pub no-window : (e : EventRun) (c : ℕ) → postedWindow (e .answers) c ≡ [] → wordsFor e c ≡ []
 no-window e c k = own-by e c ∙ ap (λ (ws : List (List ℕ)). wordsOf (itemsFor (settingsIn e) c ws)) k
 
 -- ".. and on nothing in other channels or left in the store before": two events that agree on these have the same words for c, and may differ in all
@@ -279,10 +279,10 @@ no-window e c k = own-by e c ∙ ap (λ (ws : List (List ℕ)). wordsOf (itemsFo
 pub own-alone : (e f : EventRun) (c : ℕ)
     → commonOf (settingsIn e) ≡ commonOf (settingsIn f)
     → getD (settingsIn e .thresholds) c 0 ≡ getD (settingsIn f .thresholds) c 0
-    → windowOf (e .answers) c ≡ windowOf (f .answers) c
+    → postedWindow (e .answers) c ≡ postedWindow (f .answers) c
     → wordsFor e c ≡ wordsFor f c
 own-alone e f c s t k =
-    own-by e c ∙ (ap (λ (ws : List (List ℕ)). wordsOf (itemsFor (settingsIn e) c ws)) k ∙ (go (windowOf (f .answers) c) ∙ sym (own-by f c)))
+    own-by e c ∙ (ap (λ (ws : List (List ℕ)). wordsOf (itemsFor (settingsIn e) c ws)) k ∙ (go (postedWindow (f .answers) c) ∙ sym (own-by f c)))
   where
     go : (ws : List (List ℕ)) → wordsOf (itemsFor (settingsIn e) c ws) ≡ wordsOf (itemsFor (settingsIn f) c ws)
     go [] = refl

@@ -24,7 +24,7 @@ use Rattle.layout.specs.Grammar.{Each}
 use Rattle.claims.specs.Bytes.{bytesOfWords, bytesOfLines}
 use Rattle.claims.specs.ReadsLaws.{reads-whole}
 use Rattle.claims.specs.CheckLaws.{check-bytes}
-use Rattle.claims.specs.Runs.{allOpen, BenchRun, windowA, blockA, runA, rows, asBench, CallsOf, recordsOf, BlockHolds, IfGiven, Holds}
+use Rattle.claims.specs.Runs.{allOpen, BenchRun, windowA, blockA, runA, rows, asBench, CallsOf, runRecords, BlockHolds, IfGiven, Holds}
 
 -- ---- run A's block
 
@@ -74,7 +74,7 @@ called {a} {b} {c} {d} {e} {f} {store} {words} {words′} {words″} r =
     let c5 : FinishSays closedA eventWordsA f words″ = subst (λ (w : List ℕ). FinishSays closedA w f words″) w2 (subst (λ (s : State). FinishSays s words′ f words″) s4 (r .finish)) in
     (c5 .buffer, c5 .size)
 
-read-a : readFrom startOf wordsA ≡ record { items = recordsOf runA blockA; out = Whole 10 }
+read-a : readFrom startOf wordsA ≡ record { items = runRecords runA blockA; out = Whole 10 }
 unfolding allOpen
 read-a = refl
 
@@ -90,7 +90,7 @@ block-a =
     record {
       called = called;
       taken = read-a;
-      answered = reads-whole wordsA (recordsOf runA blockA) 10 all-words read-a;
+      answered = reads-whole wordsA (runRecords runA blockA) 10 all-words read-a;
       checked = check-bytes wordsA all-words ∙ ap numberOfOut (sym (check-reads startOf wordsA) ∙ ap (λ (r : Reading). r .out) read-a);
       listed = listed-a;
     }

@@ -22,7 +22,7 @@ use Rattle.numbers.specs.BackLaws.{Loads, numbers-back}
 use Rattle.claims.specs.Order.{Bench, Post, PostRun, Apart}
 use Rattle.claims.specs.Order as P
 use Rattle.claims.specs.OrderLaws.{order}
-use Rattle.claims.specs.Own.{EventRun, windowOf, ofChannel, wordsFor}
+use Rattle.claims.specs.Own.{EventRun, postedWindow, ofChannel, wordsFor}
 use Rattle.claims.specs.AloneLaws.{own-words, no-window, own-alone}
 use Rattle.layout.specs.NothingLost.{AllWords}
 use Rattle.claims.specs.Run.{Run}
@@ -32,7 +32,7 @@ use Rattle.claims.specs.Reads.{Reads}
 use Rattle.claims.specs.ReadsLaws.{run-next}
 use Rattle.claims.specs.Bytes.{bytesOfWords}
 use Rattle.claims.specs.CheckLaws.{run-checked}
-use Rattle.claims.specs.FromC.{Call, CRun, IsRun, CPostRun, CEventRun, settingsOf, cWordsFor}
+use Rattle.claims.specs.FromC.{Call, CRun, IsRun, CPostRun, CEventRun, eventSettings, cWordsFor}
 use Rattle.claims.specs.FromC as C
 use Rattle.claims.specs.FromCLaws.{over, below, open-block-call, open-event-call, post-call, close-call, finish-call}
 
@@ -182,16 +182,16 @@ same-words e c =
     let at : ℕ = stateFrom (e .end) .words in
     ap (λ (s : State). ofChannel c false (take (s .words - at) (drop at (e .words′)))) (closing e .state .back)
 
-pub c-own-words : (e : CEventRun) (c : ℕ) (w : List ℕ) → windowOf (e .answers) c ≡ w ∷ []
-    → cWordsFor e c ≡ channelWords (commonOf (settingsOf e)) (getD (settingsOf e .thresholds) c 0) c w
+pub c-own-words : (e : CEventRun) (c : ℕ) (w : List ℕ) → postedWindow (e .answers) c ≡ w ∷ []
+    → cWordsFor e c ≡ channelWords (commonOf (eventSettings e)) (getD (eventSettings e .thresholds) c 0) c w
 c-own-words e c w k = same-words e c ∙ own-words (eventOf e) c w k
 
-pub c-no-window : (e : CEventRun) (c : ℕ) → windowOf (e .answers) c ≡ [] → cWordsFor e c ≡ []
+pub c-no-window : (e : CEventRun) (c : ℕ) → postedWindow (e .answers) c ≡ [] → cWordsFor e c ≡ []
 c-no-window e c k = same-words e c ∙ no-window (eventOf e) c k
 
 pub c-own-alone : (e f : CEventRun) (c : ℕ)
-    → commonOf (settingsOf e) ≡ commonOf (settingsOf f)
-    → getD (settingsOf e .thresholds) c 0 ≡ getD (settingsOf f .thresholds) c 0
-    → windowOf (e .answers) c ≡ windowOf (f .answers) c
+    → commonOf (eventSettings e) ≡ commonOf (eventSettings f)
+    → getD (eventSettings e .thresholds) c 0 ≡ getD (eventSettings f .thresholds) c 0
+    → postedWindow (e .answers) c ≡ postedWindow (f .answers) c
     → cWordsFor e c ≡ cWordsFor f c
 c-own-alone e f c s t k = same-words e c ∙ (own-alone (eventOf e) (eventOf f) c s t k ∙ sym (same-words f c))

@@ -102,8 +102,8 @@ pub record CEventRun : Type 0 where
   pub words′ : List ℕ
   pub closed : CloseFace end store′ words 0 after words′
 
-abbrev pub settingsOf : CEventRun → Settings
-settingsOf e = stateFrom (e .start) .settings
+abbrev pub eventSettings : CEventRun → Settings
+eventSettings e = stateFrom (e .start) .settings
 
 -- channel c's words of the event
 abbrev pub cWordsFor : CEventRun → ℕ → List ℕ

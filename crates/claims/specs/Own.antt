@@ -48,9 +48,9 @@ abbrev pub settingsIn : EventRun → Settings
 settingsIn e = e .start .state .settings
 
 -- channel c's posted window: that of its post with number 0; none where there is none
-unfoldable pub windowOf : List (Post × ℕ) → ℕ → List (List ℕ)
-windowOf [] c = []
-windowOf (a ∷ ns) c = cond (eqb (a .0 .channel) c && eqb (a .1) 0) (a .0 .window ∷ []) (windowOf ns c)
+unfoldable pub postedWindow : List (Post × ℕ) → ℕ → List (List ℕ)
+postedWindow [] c = []
+postedWindow (a ∷ ns) c = cond (eqb (a .0 .channel) c && eqb (a .1) 0) (a .0 .window ∷ []) (postedWindow ns c)
 
 -- ---- a channel's words
 

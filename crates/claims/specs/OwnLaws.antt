@@ -28,11 +28,11 @@ use Rattle.refusing.specs.TablesLaws.{open-event-accepted}
 use Rattle.state.specs.StateLaws.{block-says}
 use Rattle.claims.specs.Order.{Bench, Post, Differ, Apart}
 use Rattle.claims.specs.OrderLaws.{answerOf, after, posts, answered, zero-or, either-way, marked, left, has, after-done, after-refused, fits, number-after}
-use Rattle.claims.specs.Own.{JustOpened, windowOf}
+use Rattle.claims.specs.Own.{JustOpened, postedWindow}
 
 -- the window that channel c posts of a list, each post answered as if it came first
 abbrev pub windowFor : Bench → List Post → ℕ → List (List ℕ)
-windowFor b l c = windowOf (map (answered b) l) c
+windowFor b l c = postedWindow (map (answered b) l) c
 
 -- what channel c writes for it: of the common settings, its own threshold, its number and that window
 abbrev pub itemsFor : Settings → ℕ → List (List ℕ) → List Item
@@ -112,13 +112,13 @@ part-kept b [] c n = refl
 part-kept b (p ∷ l) c n = part-kept (after b p) l c (n .1) ∙ part-after b p c (n .0)
 
 window-none : (b : Bench) (l : List Post) (c : ℕ) → NoneFor c l → windowFor b l c ≡ []
-unfolding windowOf
+unfolding postedWindow
 window-none b [] c n = refl
 window-none b (p ∷ l) c n = rw (ne-eqb (p .channel) c (λ e. n .0 (sym e))) (window-none b l c (n .1))
 
 -- no post for a channel over 15 is accepted
 pub window-out : (b : Bench) (l : List Post) (c : ℕ) → 16 ≤ c → windowFor b l c ≡ []
-unfolding windowOf
+unfolding postedWindow
 window-out b [] c h = refl
 window-out b (p ∷ l) c h = go (eqb (p .channel) c) refl (window-out b l c h)
   where
@@ -127,7 +127,7 @@ window-out b (p ∷ l) c h = go (eqb (p .channel) c) refl (window-out b l c h)
     go false e i = i
 
 window-after : (b : Bench) (p : Post) (l : List Post) (c : ℕ) → ToEach Differ p l → windowFor (after b p) l c ≡ windowFor b l c
-unfolding windowOf
+unfolding postedWindow
 window-after b p [] c t = refl
 window-after b p (q ∷ l) c t = rw (number-after b p q (λ e. t .0 (sym e)), window-after b p l c (t .1))
 
@@ -155,7 +155,7 @@ mark-after b p c h =
 -- the first post is for channel c
 own-here : (b : Bench) (p : Post) (l : List Post) → let c = p .channel in c < length (b .state .posted) → getD (b .state .posted) c false ≡ false → NoneFor c l
     → partAt (posts (after b p) l) c ≡ itemsFor (b .state .settings) c (windowFor b (p ∷ l) c)
-unfolding windowOf
+unfolding postedWindow
 own-here b p l h m n =
     part-kept (after b p) l (p .channel) n
     ∙ zero-or (answerOf b p)
@@ -166,7 +166,7 @@ own-here b p l h m n =
 module _ (c : ℕ) where
   own-part : (b : Bench) (l : List Post) → c < length (b .state .posted) → getD (b .state .posted) c false ≡ false → Apart l
       → partAt (posts b l) c ≡ itemsFor (b .state .settings) c (windowFor b l c)
-  unfolding steps windowOf
+  unfolding steps postedWindow
   own-part b [] h m a = rw m
   own-part b (p ∷ l) h m a = go (eqb (p .channel) c) refl (λ h′ m′. own-part (after b p) l h′ m′ (a .1))
     where

@@ -197,8 +197,8 @@ pub record CallsOf (r : BenchRun) (k : BenchBlock) (a b c d e : Answer) (f : Fin
   pub finish : FinishSays (e .state) words′ f words″
 
 -- the block's records: its head, the event's, those of the channel, its end
-abbrev pub recordsOf : BenchRun → BenchBlock → List Item
-recordsOf r k =
+abbrev pub runRecords : BenchRun → BenchBlock → List Item
+runRecords r k =
     let s : Settings = r .settings in
     let front : List Item = blockItems s (k .number) 1 ++ (I.Event (record { slot = s .slot; number = k .event }) ∷ (timeItems (s .times) (k .time) ++ r .written)) in
     front ++ endItems s (length front)
@@ -208,8 +208,8 @@ pub record BlockHolds (r : BenchRun) (k : BenchBlock) : Type 0 where
   pub called : {a b c d e : Answer} {f : Finished} {store words words′ words″ : List ℕ} → CallsOf r k a b c d e f store words words′ words″
       → (words″ ≡ k .words) × (f .length ≡ length (k .words))
   -- the reader takes the words, and answers every record as it was written, `next` too
-  pub taken : readFrom startOf (k .words) ≡ record { items = recordsOf r k; out = Whole (length (k .words)) }
-  pub answered : Reads (k .words) startOf (recordsOf r k) (length (k .words))
+  pub taken : readFrom startOf (k .words) ≡ record { items = runRecords r k; out = Whole (length (k .words)) }
+  pub answered : Reads (k .words) startOf (runRecords r k) (length (k .words))
   -- the C check of their bytes, and what the lister prints of these
   pub checked : checkNumber (bytesOfWords (k .words)) ≡ length (k .words)
   pub listed : listingOf (bytesOfWords (k .words)) ≡ bytesOfLines (k .text)

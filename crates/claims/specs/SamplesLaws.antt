@@ -45,7 +45,7 @@ use Rattle.claims.specs.ReadsLaws.{run-next}
 use Rattle.claims.specs.Run.{Run, opened, begun, posted, closed, not-closed, not-opened, not-finished}
 use Rattle.claims.specs.Order.{Bench, Post}
 use Rattle.claims.specs.OrderLaws.{answerOf, has, run-posts}
-use Rattle.claims.specs.Own.{EventRun, settingsIn, windowOf}
+use Rattle.claims.specs.Own.{EventRun, settingsIn, postedWindow}
 use Rattle.claims.specs.OwnLaws.{windowFor, itemsFor, ownItems, own-records}
 use Rattle.claims.specs.Samples.{ifValid, samplesOf, recordSamples, samplesRead, setsSent, channelSent, rowsSent, windowSent, windowsSent, samplesSent}
 
@@ -308,7 +308,7 @@ own-sends s windows u c (suc n) = carry-append (go (windows c) (u c)) (own-sends
 
 -- an accepted window's samples are in range
 window-under : (b : Bench) (l : List Post) (c : ℕ) → Each (λ w. Under 8191 w) (windowFor b l c)
-unfolding windowOf samplesOk
+unfolding postedWindow samplesOk
 window-under b [] c = tt
 window-under b (p ∷ l) c = go (eqb (p .channel) c && eqb (answerOf b p) 0) refl (window-under b l c)
   where
@@ -322,7 +322,7 @@ unfolding among
 carry-same {xs} {ys} {a} {b} e p q = sym (append-nil a) ∙ (sym (p .all [] refl) ∙ (ap (λ (l : List Item). among (l ++ [])) e ∙ (q .all [] refl ∙ append-nil b)))
 
 -- what the close sends are the windows posted
-pub event-samples : (e : EventRun) → rowsSent (e .end .state .settings) (e .end .store) 0 (e .end .state .posted) ≡ windowsSent (settingsIn e) (windowOf (e .answers)) 0 16
+pub event-samples : (e : EventRun) → rowsSent (e .end .state .settings) (e .end .store) 0 (e .end .state .posted) ≡ windowsSent (settingsIn e) (postedWindow (e .answers)) 0 16
 unfolding timeItems
 event-samples e =
     let b = e .start in
@@ -334,4 +334,4 @@ event-samples e =
     (carry-append (carry-bare _ refl (λ xs. refl))
     (carry-append (carry-append (carry-item (leb 1 (s .times)) _ refl (λ xs. refl)) (carry-item (leb 2 (s .times)) _ refl (λ xs. refl)))
     (own-sends s (windowFor b (e .posts)) (window-under b (e .posts)) 0 16)))
-    ∙ ap (λ (ns : List (Post × ℕ)). windowsSent s (windowOf ns) 0 16) (sym (r .1))
+    ∙ ap (λ (ns : List (Post × ℕ)). windowsSent s (postedWindow ns) 0 16) (sym (r .1))

@@ -37,8 +37,8 @@ use Rattle.listing.specs.Listing.{listingOf}
 use Rattle.listing.specs.Says.{ListSays}
 
 -- a reference to lent words, samples, bytes or numbers: `now` are those it refers to
-abbrev pub Lent : Type 0
-Lent = RefT (List ℕ)
+abbrev pub Reference : Type 0
+Reference = RefT (List ℕ)
 
 -- ---- the calls
 
@@ -46,7 +46,7 @@ pub set-up-tied : (settings : Settings) (r : Answer)
     → writer.set_up.Reads.Learnt tt (settings, tt) r (settings, tt) → SetUpSays settings r
 set-up-tied settings r p = p
 
-pub open-block-tied : (κs : Lfts 1) (state : State) (words words′ : Lent) (number events : ℕ) (r : Answer)
+pub open-block-tied : (κs : Lfts 1) (state : State) (words words′ : Reference) (number events : ℕ) (r : Answer)
     → writer.«open_block».Reads.Learnt κs (state, (words, (number, (events, tt)))) r (state, (words′, (number, (events, tt)))) → OpenBlockSays state (now words) number events r (now words′)
 open-block-tied κs state words words′ number events r p = p
 
@@ -54,56 +54,56 @@ pub open-event-tied : (state : State) (number time : ℕ) (r : Answer)
     → writer.«open_event».Reads.Learnt tt (state, (number, (time, tt))) r (state, (number, (time, tt))) → OpenEventSays state number time r
 open-event-tied state number time r p = p
 
-pub post-tied : (κs : Lfts 2) (state : State) (store store′ : Lent) (channel : ℕ) (window : Lent) (r : Answer)
+pub post-tied : (κs : Lfts 2) (state : State) (store store′ : Reference) (channel : ℕ) (window : Reference) (r : Answer)
     → writer.post.Reads.Learnt κs (state, (store, (channel, (window, tt)))) r (state, (store′, (channel, (window, tt)))) → PostSays state (now store) channel (now window) r (now store′)
 post-tied κs state store store′ channel window r p = p
 
-pub close-tied : (κs : Lfts 2) (state : State) (store words words′ : Lent) (r : Answer)
+pub close-tied : (κs : Lfts 2) (state : State) (store words words′ : Reference) (r : Answer)
     → writer.close.Reads.Learnt κs (state, (store, (words, tt))) r (state, (store, (words′, tt))) → CloseSays state (now store) (now words) r (now words′)
 close-tied κs state store words words′ r p = p
 
-pub finish-tied : (κs : Lfts 1) (state : State) (words words′ : Lent) (r : Finished)
+pub finish-tied : (κs : Lfts 1) (state : State) (words words′ : Reference) (r : Finished)
     → writer.finish.Reads.Learnt κs (state, (words, tt)) r (state, (words′, tt)) → FinishSays state (now words) r (now words′)
 finish-tied κs state words words′ r p = p
 
-pub find-tied : (κs : Lfts 1) (settings : Settings) (channel : ℕ) (window : Lent) (r : FindAnswer)
+pub find-tied : (κs : Lfts 1) (settings : Settings) (channel : ℕ) (window : Reference) (r : FindAnswer)
     → find.find.Reads.Learnt κs (settings, (channel, (window, tt))) r (settings, (channel, (window, tt))) → FindSays settings channel (now window) r
 find-tied κs settings channel window r p = p
 
 -- ---- the same from C
 
-pub fadc250-set-up-tied : (κs : Lfts 2) (settings state state′ : Lent) (r : ℕ)
+pub fadc250-set-up-tied : (κs : Lfts 2) (settings state state′ : Reference) (r : ℕ)
     → host.calls.fadc250_set_up.Reads.Learnt κs (settings, (state, tt)) r (settings, (state′, tt)) → SetUpFace (now settings) (now state) r (now state′)
 fadc250-set-up-tied κs settings state state′ r p = p
 
-pub fadc250-open-block-tied : (κs : Lfts 2) (state state′ words words′ : Lent) (number events r : ℕ)
+pub fadc250-open-block-tied : (κs : Lfts 2) (state state′ words words′ : Reference) (number events r : ℕ)
     → host.calls.fadc250_open_block.Reads.Learnt κs (state, (words, (number, (events, tt)))) r (state′, (words′, (number, (events, tt))))
     → OpenBlockFace (now state) (now words) number events r (now state′) (now words′)
 fadc250-open-block-tied κs state state′ words words′ number events r p = p
 
-pub fadc250-open-event-tied : (κs : Lfts 1) (state state′ : Lent) (number time r : ℕ)
+pub fadc250-open-event-tied : (κs : Lfts 1) (state state′ : Reference) (number time r : ℕ)
     → host.calls.fadc250_open_event.Reads.Learnt κs (state, (number, (time, tt))) r (state′, (number, (time, tt))) → OpenEventFace (now state) number time r (now state′)
 fadc250-open-event-tied κs state state′ number time r p = p
 
-pub fadc250-post-tied : (κs : Lfts 3) (state state′ store store′ : Lent) (channel : ℕ) (window : Lent) (r : ℕ)
+pub fadc250-post-tied : (κs : Lfts 3) (state state′ store store′ : Reference) (channel : ℕ) (window : Reference) (r : ℕ)
     → host.calls.fadc250_post.Reads.Learnt κs (state, (store, (channel, (window, tt)))) r (state′, (store′, (channel, (window, tt))))
     → PostFace (now state) (now store) channel (now window) r (now state′) (now store′)
 fadc250-post-tied κs state state′ store store′ channel window r p = p
 
-pub fadc250-close-tied : (κs : Lfts 3) (state state′ store words words′ : Lent) (r : ℕ)
+pub fadc250-close-tied : (κs : Lfts 3) (state state′ store words words′ : Reference) (r : ℕ)
     → host.calls.fadc250_close.Reads.Learnt κs (state, (store, (words, tt))) r (state′, (store, (words′, tt))) → CloseFace (now state) (now store) (now words) r (now state′) (now words′)
 fadc250-close-tied κs state state′ store words words′ r p = p
 
-pub fadc250-finish-tied : (κs : Lfts 2) (state state′ words words′ : Lent) (r : ℕ)
+pub fadc250-finish-tied : (κs : Lfts 2) (state state′ words words′ : Reference) (r : ℕ)
     → host.calls.fadc250_finish.Reads.Learnt κs (state, (words, tt)) r (state′, (words′, tt)) → FinishFace (now state) (now words) r (now state′) (now words′)
 fadc250-finish-tied κs state state′ words words′ r p = p
 
-pub fadc250-find-tied : (κs : Lfts 3) (settings : Lent) (channel : ℕ) (window out out′ : Lent) (r : ℕ)
+pub fadc250-find-tied : (κs : Lfts 3) (settings : Reference) (channel : ℕ) (window out out′ : Reference) (r : ℕ)
     → host.found.fadc250_find.Reads.Learnt κs (settings, (channel, (window, (out, tt)))) r (settings, (channel, (window, (out′, tt))))
     → FindFace (now settings) channel (now window) (now out) r (now out′)
 fadc250-find-tied κs settings channel window out out′ r p = p
 
-pub fadc250-check-tied : (κs : Lfts 1) (bytes : Lent) (r : ℕ)
+pub fadc250-check-tied : (κs : Lfts 1) (bytes : Reference) (r : ℕ)
     → host.fadc250_check.Reads.Learnt κs (bytes, tt) r (bytes, tt) → r ≡ checkNumber (now bytes)
 fadc250-check-tied κs bytes r p = p
 
@@ -121,11 +121,11 @@ scan-judge-tied self word r p = p
 pub scan-at-end-tied : (self : Scan) (r : ℕ) → reader.at_end.Reads.Learnt tt (self, tt) r (self, tt) → r ≡ endNumber self
 scan-at-end-tied self r p = p
 
-pub next-tied : (κs : Lfts 1) (words : Lent) (scan : Scan) (r : Next) → records.next.Reads.Learnt κs (words, (scan, tt)) r (words, (scan, tt)) → NextSays (now words) scan r
+pub next-tied : (κs : Lfts 1) (words : Reference) (scan : Scan) (r : Next) → records.next.Reads.Learnt κs (words, (scan, tt)) r (words, (scan, tt)) → NextSays (now words) scan r
 next-tied κs words scan r p = p
 
-pub part-tied : (κs : Lfts 1) (words : Lent) (p : Pairs) (r : Lent) → rawitems.part.Reads.Learnt κs (words, (p, tt)) r (words, (p, tt)) → now r ≡ partOf (now words) p
+pub part-tied : (κs : Lfts 1) (words : Reference) (p : Pairs) (r : Reference) → rawitems.part.Reads.Learnt κs (words, (p, tt)) r (words, (p, tt)) → now r ≡ partOf (now words) p
 part-tied κs words p r e = e
 
-pub list-tied : (κs : Lfts 2) (bytes text text′ : Lent) (r : Listed) → listing.list.Reads.Learnt κs (bytes, (text, tt)) r (bytes, (text′, tt)) → ListSays (listingOf (now bytes)) (now text) r (now text′)
+pub list-tied : (κs : Lfts 2) (bytes text text′ : Reference) (r : Listed) → listing.list.Reads.Learnt κs (bytes, (text, tt)) r (bytes, (text′, tt)) → ListSays (listingOf (now bytes)) (now text) r (now text′)
 list-tied κs bytes text text′ r p = p

@@ -583,11 +583,11 @@ is-settings-unique κs a r s u v p q = by-equation p q
 pub is-state-unique : Unique numbers.held.is_state.ended numbers.held.is_state.Reads.Learnt
 is-state-unique κs a r s u v p q = by-equation p q
 
-pub settings-in-unique : Unique numbers.load.settings_in.ended numbers.load.settings_in.Reads.Learnt
-settings-in-unique κs a r s u v p q = by-equation p q
+pub settings-or-none-unique : Unique numbers.load.settings_or_none.ended numbers.load.settings_or_none.Reads.Learnt
+settings-or-none-unique κs a r s u v p q = by-equation p q
 
-pub state-in-unique : Unique numbers.load.state_in.ended numbers.load.state_in.Reads.Learnt
-state-in-unique κs a r s u v p q = by-equation p q
+pub state-or-none-unique : Unique numbers.load.state_or_none.ended numbers.load.state_or_none.Reads.Learnt
+state-or-none-unique κs a r s u v p q = by-equation p q
 
 pub put-head-unique : Unique numbers.store.put_head.ended numbers.store.put_head.Reads.Learnt
 put-head-unique κs a r s u v p q = (refl, λ i. (one-result p q i, u .1))

@@ -23,7 +23,7 @@ use Rattle.writer.specs.Calls.{ifAccepted, SetUpSays, OpenBlockSays, OpenEventS
 use Rattle.refusing.specs.Tables.{setUpNumber, openBlockTable, openBlockNumber, openEventTable, openEventNumber, postTable, postNumber, closingItems, closeTable, closeNumber, finishTable, finishNumber}
 use Rattle.block.specs.Block.{blockItems, endItems}
 use Rattle.writer.specs.CallsLaws.{done}
-use Rattle.numbers.specs.Numbers.{settingsCount, headCount, stateCount, isSettings, isState, settingsFrom, stateFrom, settingsIn, stateIn, settingsNumbers, headOf, numbersOf, headStored, stateStored}
+use Rattle.numbers.specs.Numbers.{settingsCount, headCount, stateCount, isSettings, isState, settingsFrom, stateFrom, settingsOrNone, stateOrNone, settingsNumbers, headOf, numbersOf, headStored, stateStored}
 use Rattle.numbers.specs.NumbersLaws.{settings-count, state-count, state-settings-held}
 use Rattle.numbers.specs.StoreLaws.{head-over}
 use Rattle.numbers.specs.BackLaws.{settings-back}
@@ -39,7 +39,7 @@ head-numbers n s e f =
 
 -- ---- a call on a state: its number, the numbers after it, and what was lent; numbers that are no state are refused as what stands for none
 
-module _ (n : List ℕ) (number : State → ℕ) (none : number blank ≡ numberOf R.State) {s : State} {r : ℕ} (f : s ≡ stateIn n) (g : r ≡ number s) where
+module _ (n : List ℕ) (number : State → ℕ) (none : number blank ≡ numberOf R.State) {s : State} {r : ℕ} (f : s ≡ stateOrNone n) (g : r ≡ number s) where
   call-number : r ≡ onState n (number (stateFrom n))
   call-number = g ∙ ap number f ∙ go (isState n)
     where
@@ -85,14 +85,14 @@ none-out = refl
 
 module _ (m : List ℕ) (number : Settings → ℕ) (none : number (blank .settings) ≡ numberOf R.Setting) where
   -- so that numbers that are no settings are refused as it is
-  pub settings-number : number (settingsIn m) ≡ onSettings m (number (settingsFrom m))
+  pub settings-number : number (settingsOrNone m) ≡ onSettings m (number (settingsFrom m))
   settings-number = go (isSettings m)
     where
       go : (b : Bool) → number (cond b (settingsFrom m) (blank .settings)) ≡ cond b (number (settingsFrom m)) (numberOf R.Setting)
       go true = refl
       go false = none
 
-  pub settings-accepted : number (settingsIn m) ≡ 0 → isSettings m ≡ true
+  pub settings-accepted : number (settingsOrNone m) ≡ 0 → isSettings m ≡ true
   settings-accepted e = go (isSettings m) e
     where
       go : (b : Bool) → number (cond b (settingsFrom m) (blank .settings)) ≡ 0 → b ≡ true
@@ -105,7 +105,7 @@ set-up-out : setUpNumber (blank .settings) ≡ numberOf R.Setting
 unfolding setUpNumber firstOf
 set-up-out = rw none-out
 
-module _ (m n : List ℕ) {s : Settings} {a : Answer} (f : s ≡ settingsIn m) (d : SetUpSays s a) where
+module _ (m n : List ℕ) {s : Settings} {a : Answer} (f : s ≡ settingsOrNone m) (d : SetUpSays s a) where
   first-number : (later : ℕ) → orElse (onSettings m (setUpNumber (settingsFrom m))) later ≡ orElse (numberOf (a .refusal)) later
   first-number later = ap (λ (k : ℕ). orElse k later) (sym (d .refusal ∙ ap setUpNumber f ∙ settings-number m setUpNumber set-up-out))
 
@@ -143,7 +143,7 @@ block-same : (block events : ℕ) (s : State) → blockOpened s block events .se
 unfolding withBlock
 block-same block events s = refl
 
-pub open-block-face : (n words : List ℕ) (block events : ℕ) {s : State} {a : Answer} {r : ℕ} {n′ words′ : List ℕ} → s ≡ stateIn n
+pub open-block-face : (n words : List ℕ) (block events : ℕ) {s : State} {a : Answer} {r : ℕ} {n′ words′ : List ℕ} → s ≡ stateOrNone n
     → OpenBlockSays s words block events a words′ → Kept n (numberOf (a .refusal)) (a .state) r n′ → OpenBlockFace n words block events r n′ words′
 open-block-face n words block events f d k =
     let number : State → ℕ = λ x. openBlockNumber x (length words) block events in
@@ -164,7 +164,7 @@ event-same : (event time : ℕ) (s : State) → withEvent s event time .settings
 unfolding withEvent
 event-same event time s = refl
 
-pub open-event-face : (n : List ℕ) (event time : ℕ) {s : State} {a : Answer} {r : ℕ} {n′ : List ℕ} → s ≡ stateIn n
+pub open-event-face : (n : List ℕ) (event time : ℕ) {s : State} {a : Answer} {r : ℕ} {n′ : List ℕ} → s ≡ stateOrNone n
     → OpenEventSays s event time a → Kept n (numberOf (a .refusal)) (a .state) r n′ → OpenEventFace n event time r n′
 open-event-face n event time f d k =
     let number : State → ℕ = λ x. openEventNumber x event time in
@@ -184,7 +184,7 @@ mark-same : (c : ℕ) (s : State) → posted s c .settings ≡ s .settings
 unfolding withMark
 mark-same c s = refl
 
-pub post-face : (n store : List ℕ) (c : ℕ) (w : List ℕ) {s : State} {a : Answer} {r : ℕ} {n′ store′ : List ℕ} → s ≡ stateIn n
+pub post-face : (n store : List ℕ) (c : ℕ) (w : List ℕ) {s : State} {a : Answer} {r : ℕ} {n′ store′ : List ℕ} → s ≡ stateOrNone n
     → PostSays s store c w a store′ → Kept n (numberOf (a .refusal)) (a .state) r n′ → PostFace n store c w r n′ store′
 post-face n store c w f d k =
     let number : State → ℕ = λ x. postNumber x (length store) c w in
@@ -205,7 +205,7 @@ close-same : (store : List ℕ) (s : State) → eventClosed s store .settings �
 unfolding withClosed
 close-same store s = refl
 
-pub close-face : (n store words : List ℕ) {s : State} {a : Answer} {r : ℕ} {n′ words′ : List ℕ} → s ≡ stateIn n
+pub close-face : (n store words : List ℕ) {s : State} {a : Answer} {r : ℕ} {n′ words′ : List ℕ} → s ≡ stateOrNone n
     → CloseSays s store words a words′ → Kept n (numberOf (a .refusal)) (a .state) r n′ → CloseFace n store words r n′ words′
 close-face n store words f d k =
     let number : State → ℕ = λ x. closeNumber x store (length words) in
@@ -227,7 +227,7 @@ unfolding idle
 idle-same s = refl
 
 -- the number, the state and the words; j is the number of the refusal
-pub finish-face : (n words : List ℕ) {s : State} {a : Finished} {j r : ℕ} {n′ words′ : List ℕ} → s ≡ stateIn n
+pub finish-face : (n words : List ℕ) {s : State} {a : Finished} {j r : ℕ} {n′ words′ : List ℕ} → s ≡ stateOrNone n
     → FinishSays s words a words′ → Kept n (numberOf (a .refusal)) (a .state) j n′ → r ≡ inHigh j (a .length) → FinishFace n words r n′ words′
 finish-face n words {a = a} {j = j} f d k h =
     let number : State → ℕ = λ x. finishNumber x (length words) in

@@ -23,7 +23,7 @@ use Rattle.finder.specs.RangeLaws.{PulseFits, EachFits, fits-at, pulses-fit, pu
 use Rattle.find.specs.Call.{findTable, findNumber, channelPulses, foundPulses, FindSays}
 use Rattle.find.specs.CallLaws.{accepted, found-none, found-all}
 use Rattle.state.specs.State.{blank}
-use Rattle.numbers.specs.Numbers.{isSettings, settingsFrom, settingsIn}
+use Rattle.numbers.specs.Numbers.{isSettings, settingsFrom, settingsOrNone}
 use Rattle.host.specs.Face.{onSettings, orElse, pulseNumbers, pulseCount, pulseRow, foundCount, foundNumbers, FindFace}
 use Rattle.host.specs.FaceLaws.{none-out, settings-number, settings-accepted}
 use Rattle.host.specs.Inner.{Small, AllSmall}
@@ -108,7 +108,7 @@ find-out : (c : ℕ) (w : List ℕ) → findNumber (blank .settings) c w ≡ num
 unfolding findNumber findTable firstOf
 find-out c w = rw none-out
 
-module _ (m : List ℕ) (c : ℕ) (w out : List ℕ) {s : Settings} {a : FindAnswer} (f : s ≡ settingsIn m) (d : FindSays s c w a) where
+module _ (m : List ℕ) (c : ℕ) (w out : List ℕ) {s : Settings} {a : FindAnswer} (f : s ≡ settingsOrNone m) (d : FindSays s c w a) where
   first-number : (later : ℕ) → orElse (onSettings m (findNumber (settingsFrom m) c w)) later ≡ orElse (numberOf (a .refusal)) later
   first-number later = ap (λ (k : ℕ). orElse k later) (sym (d .refusal ∙ ap (λ (x : Settings). findNumber x c w) f ∙ settings-number m (λ (x : Settings). findNumber x c w) (find-out c w)))
 

@@ -4,8 +4,8 @@ ghost use mathlib.Core.Path.{_≡_};
 ghost use Rattle.refusals.specs.Refusal.{numberOf};
 ghost use Rattle.host.specs.Face.{SetUpFace, OpenBlockFace, OpenEventFace, PostFace, CloseFace, FinishFace, inHigh};
 ghost use Rattle.host.specs.Inner.{Kept};
-use numbers::load::settings_in;
-use numbers::load::state_in;
+use numbers::load::settings_or_none;
+use numbers::load::state_or_none;
 use numbers::store::put_head;
 use numbers::store::put_state;
 use refusals::Refusal;
@@ -16,7 +16,7 @@ use writer::Answer;
 pub extern "C" fn fadc250_set_up(settings: &[u64], state: &mut [u64]) -> u32
     ensures { λ r. ⌜ SetUpFace (now (settings .entry)) (now (state .entry)) r (now (state .exit)) ⌝ }
 {
-    let loaded = settings_in(settings);
+    let loaded = settings_or_none(settings);
     let answer = writer::set_up(loaded);
     let refusal = answer.refusal;
     if !refusals::accepted(refusal) {
@@ -59,7 +59,7 @@ pub extern "C" fn fadc250_open_block(
 ) -> u32
     ensures { λ r. ⌜ OpenBlockFace (now (state .entry)) (now (words .entry)) number events r (now (state .exit)) (now (words .exit)) ⌝ }
 {
-    let loaded = state_in(state);
+    let loaded = state_or_none(state);
     let answer = writer::open_block(loaded, words, number, events);
     put_answer(state, answer)
 }
@@ -68,7 +68,7 @@ pub extern "C" fn fadc250_open_block(
 pub extern "C" fn fadc250_open_event(state: &mut [u64], number: u32, time: u64) -> u32
     ensures { λ r. ⌜ OpenEventFace (now (state .entry)) number time r (now (state .exit)) ⌝ }
 {
-    let loaded = state_in(state);
+    let loaded = state_or_none(state);
     let answer = writer::open_event(loaded, number, time);
     put_answer(state, answer)
 }
@@ -82,7 +82,7 @@ pub extern "C" fn fadc250_post(
 ) -> u32
     ensures { λ r. ⌜ PostFace (now (state .entry)) (now (store .entry)) channel (now (window .entry)) r (now (state .exit)) (now (store .exit)) ⌝ }
 {
-    let loaded = state_in(state);
+    let loaded = state_or_none(state);
     let answer = writer::post(loaded, store, channel as usize, window);
     put_answer(state, answer)
 }
@@ -91,7 +91,7 @@ pub extern "C" fn fadc250_post(
 pub extern "C" fn fadc250_close(state: &mut [u64], store: &[u16], words: &mut [u32]) -> u32
     ensures { λ r. ⌜ CloseFace (now (state .entry)) (now (store .entry)) (now (words .entry)) r (now (state .exit)) (now (words .exit)) ⌝ }
 {
-    let loaded = state_in(state);
+    let loaded = state_or_none(state);
     let answer = writer::close(loaded, store, words);
     put_answer(state, answer)
 }
@@ -110,7 +110,7 @@ fn in_high(number: u32, length: usize) -> u64
 pub extern "C" fn fadc250_finish(state: &mut [u64], words: &mut [u32]) -> u64
     ensures { λ r. ⌜ FinishFace (now (state .entry)) (now (words .entry)) r (now (state .exit)) (now (words .exit)) ⌝ }
 {
-    let loaded = state_in(state);
+    let loaded = state_or_none(state);
     let finished = writer::finish(loaded, words);
     let refusal = finished.refusal;
     let new = finished.state;

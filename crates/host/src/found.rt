@@ -7,7 +7,7 @@ ghost use Rattle.host.specs.Face.{pulseNumbers, pulseRow, foundCount, fo
 ghost use Rattle.host.specs.Inner.{Small, AllSmall};
 use finder::Pulse;
 use finder::Pulses;
-use numbers::load::settings_in;
+use numbers::load::settings_or_none;
 use refusals::Refusal;
 
 // How many numbers a pulse has, where those of each place stand, behind the count, and how many are written.
@@ -90,7 +90,7 @@ pub extern "C" fn fadc250_find(
 ) -> u32
     ensures { λ r. ⌜ FindFace (now (settings .entry)) channel (now (window .entry)) (now (out .entry)) r (now (out .exit)) ⌝ }
 {
-    let loaded = settings_in(settings);
+    let loaded = settings_or_none(settings);
     let answer = find::find(loaded, channel as usize, window);
     let refusal = answer.refusal;
     if !refusals::accepted(refusal) {

@@ -13,7 +13,7 @@ use Rattle.text.specs.Page.{Page, farthest, put}
 use Rattle.text.specs.PageLaws.{put-length, put-all, place-all}
 use Rattle.listing.specs.declared.Listed.{Listed}
 use Rattle.listing.specs.declared.Listed.the-variants as L
-use Rattle.listing.specs.Says.{listedNumber, listedValue, hasRoom, ListSays}
+use Rattle.listing.specs.Says.{listedNumber, listedValue, textHasRoom, ListSays}
 
 nil-of : (l : List ℕ) → length l ≡ 0 → l ≡ []
 nil-of [] e = refl
@@ -58,7 +58,7 @@ one-listing p q = (listed-same _ _ (one-result (p .number) (q .number)) (one-res
 -- a text that is told lies in the buffer
 module _ {all text : List ℕ} {r : Listed} {k : ℕ} {text′ : List ℕ} (e : r ≡ L.Text k) (s : ListSays all text r text′) where
   pub within : k ≤ length text′
-  within = go (hasRoom all text) (sym (ap listedNumber e) ∙ s .number) (sym (ap listedValue e) ∙ s .value) (s .bytes)
+  within = go (textHasRoom all text) (sym (ap listedNumber e) ∙ s .number) (sym (ap listedValue e) ∙ s .value) (s .bytes)
     where
       go : (b : Bool) → _≡_ {A = ℕ} 0 (cond b 0 9) → k ≡ length all → text′ ≡ cond b (all ++ drop (length all) text) text → k ≤ length text′
       go true f z g = rw (z, g, length-append) (omega arith)

@@ -33,11 +33,11 @@ abbrev pub listedValue : Listed → ℕ
 listedValue (L.Text n) = n
 listedValue (L.NoRoom n) = n
 
-abbrev pub hasRoom : List ℕ → List ℕ → Bool
-hasRoom all text = leb (length all) (length text)
+abbrev pub textHasRoom : List ℕ → List ℕ → Bool
+textHasRoom all text = leb (length all) (length text)
 
 -- the text stands in front and the rest is as it was; where it has no room, all is as it was
 pub record ListSays (all text : List ℕ) (r : Listed) (text′ : List ℕ) : Type 0 where
-  pub number : listedNumber r ≡ cond (hasRoom all text) 0 9
+  pub number : listedNumber r ≡ cond (textHasRoom all text) 0 9
   pub value : listedValue r ≡ length all
-  pub bytes : text′ ≡ cond (hasRoom all text) (all ++ drop (length all) text) text
+  pub bytes : text′ ≡ cond (textHasRoom all text) (all ++ drop (length all) text) text

@@ -17,7 +17,7 @@ use Rattle.state.specs.declared.Phase.the-variants.{Idle, Block, Event}
 use Rattle.state.specs.declared.State.{State}
 use Rattle.state.specs.State.{isIdle, isBlock, isEvent, stateOk}
 use Rattle.state.specs.StateLaws.{idle-says, block-says, event-says, words-le}
-use Rattle.numbers.specs.Numbers.{parametersAt, thresholdsAt, most32, most64, settingsLimits, phaseAt, blockAt, eventsAt, eventAt, timeAt, marksAt, closedAt, wordsAt, headLimits, headCount, heldIn, isSettings, isState, settingsFrom, phaseFrom, table, marksFrom, stateFrom, markBit, settingsNumbers, phaseNumber, marksNumber, headOf, numbersOf}
+use Rattle.numbers.specs.Numbers.{parametersAt, thresholdsAt, most32, most64, settingsLimits, phaseAt, blockAt, eventsAt, eventAt, triggerTimeAt, marksAt, closedAt, wordsAt, headLimits, headCount, heldIn, isSettings, isState, settingsFrom, phaseFrom, table, marksFrom, stateFrom, markBit, settingsNumbers, phaseNumber, marksNumber, headOf, numbersOf}
 use Rattle.numbers.specs.NumbersLaws.{held-at, settings-count, marks-small, state-count, state-settings-held, head-held}
 
 -- ---- settings, loaded and stored
@@ -120,7 +120,7 @@ unfolding numbersOf headOf stateFrom marksFrom table
 numbers-back n e =
     let at : ℕ → ℕ = λ i. getD n i 0 in
     let marks : at marksAt < 2 ^ 16 = omega (arith, head-held n e marksAt (omega arith)) in
-    ap₂ (λ (p m : ℕ). p ∷ at blockAt ∷ at eventsAt ∷ at eventAt ∷ at timeAt ∷ m ∷ at closedAt ∷ at wordsAt ∷ settingsNumbers (settingsFrom (drop headCount n))) (phase-there (at phaseAt) (head-held n e phaseAt (omega arith)))
+    ap₂ (λ (p m : ℕ). p ∷ at blockAt ∷ at eventsAt ∷ at eventAt ∷ at triggerTimeAt ∷ m ∷ at closedAt ∷ at wordsAt ∷ settingsNumbers (settingsFrom (drop headCount n))) (phase-there (at phaseAt) (head-held n e phaseAt (omega arith)))
     (marks-there 16 (at marksAt) ∙ mod-eq-of-lt marks)
     ∙ ap (λ (l : List ℕ). table at headCount 0 ++ l) (settings-back (drop headCount n) (state-settings-held n e))
     ∙ sym (from-place n headCount 0 (omega (arith, state-count n e)))

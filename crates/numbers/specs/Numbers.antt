@@ -77,8 +77,8 @@ eventsAt = 2
 abbrev pub eventAt : ℕ
 eventAt = 3
 
-abbrev pub timeAt : ℕ
-timeAt = 4
+abbrev pub triggerTimeAt : ℕ
+triggerTimeAt = 4
 
 abbrev pub marksAt : ℕ
 marksAt = 5
@@ -152,7 +152,7 @@ stateFrom n =
       block = getD n blockAt 0;
       events = getD n eventsAt 0;
       event = getD n eventAt 0;
-      time = getD n timeAt 0;
+      time = getD n triggerTimeAt 0;
       posted = marksFrom (getD n marksAt 0);
       closed = getD n closedAt 0;
       words = getD n wordsAt 0;
@@ -160,12 +160,12 @@ stateFrom n =
     }
 
 -- any numbers: those that are no state stand for none, which every call refuses with 10
-abbrev pub stateIn : List ℕ → State
-stateIn n = cond (isState n) (stateFrom n) blank
+abbrev pub stateOrNone : List ℕ → State
+stateOrNone n = cond (isState n) (stateFrom n) blank
 
 -- the same of settings, which every call refuses with 1
-abbrev pub settingsIn : List ℕ → Settings
-settingsIn n = cond (isSettings n) (settingsFrom n) (blank .settings)
+abbrev pub settingsOrNone : List ℕ → Settings
+settingsOrNone n = cond (isSettings n) (settingsFrom n) (blank .settings)
 
 -- ---- the numbers of settings and of a state
 

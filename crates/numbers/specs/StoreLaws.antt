@@ -14,7 +14,7 @@ use Rattle.settings.specs.declared.Settings.{Settings}
 use Rattle.state.specs.declared.Phase.{Phase}
 use Rattle.state.specs.declared.State.{State}
 use Rattle.state.specs.State.{blank}
-use Rattle.numbers.specs.Numbers.{modeAt, nwAt, plAt, nsbAt, nsaAt, limitAt, slotAt, parametersAt, timesAt, multipleAt, thresholdsAt, settingsCount, phaseAt, blockAt, eventsAt, eventAt, timeAt, marksAt, closedAt, wordsAt, headLimits, headCount, stateCount, heldIn, isSettings, isState, settingsFrom, phaseFrom, marksFrom, stateFrom, settingsIn, stateIn, phaseNumber, marksNumber, headOf, headStored, stateStored}
+use Rattle.numbers.specs.Numbers.{modeAt, nwAt, plAt, nsbAt, nsaAt, limitAt, slotAt, parametersAt, timesAt, multipleAt, thresholdsAt, settingsCount, phaseAt, blockAt, eventsAt, eventAt, triggerTimeAt, marksAt, closedAt, wordsAt, headLimits, headCount, stateCount, heldIn, isSettings, isState, settingsFrom, phaseFrom, marksFrom, stateFrom, settingsOrNone, stateOrNone, phaseNumber, marksNumber, headOf, headStored, stateStored}
 use Rattle.numbers.specs.NumbersLaws.{settings-32, head-32, tail-part}
 
 -- ---- asking
@@ -54,7 +54,7 @@ pub state-loaded : (n : List ℕ) → isState n ≡ true → {first block events
     → block ≡ getD n blockAt 0 % 4294967296
     → events ≡ getD n eventsAt 0 % 4294967296
     → event ≡ getD n eventAt 0 % 4294967296
-    → time ≡ getD n timeAt 0
+    → time ≡ getD n triggerTimeAt 0
     → closed ≡ getD n closedAt 0 % 4294967296
     → words ≡ getD n wordsAt 0
     → record { settings = settings; phase = phase; block = block; events = events; event = event; time = time; posted = posted; closed = closed; words = words } ≡ stateFrom n
@@ -65,16 +65,16 @@ state-loaded n e s p q m k b v w t c u =
 
 -- ---- loading any numbers
 
-pub settings-held : (n : List ℕ) {s : Settings} → isSettings n ≡ true → s ≡ settingsFrom n → s ≡ settingsIn n
+pub settings-held : (n : List ℕ) {s : Settings} → isSettings n ≡ true → s ≡ settingsFrom n → s ≡ settingsOrNone n
 settings-held n e f = rw e f
 
-pub settings-none : (n : List ℕ) {s : State} → isSettings n ≡ false → s ≡ blank → s .settings ≡ settingsIn n
+pub settings-none : (n : List ℕ) {s : State} → isSettings n ≡ false → s ≡ blank → s .settings ≡ settingsOrNone n
 settings-none n e f = rw e (ap (λ (x : State). x .settings) f)
 
-pub state-held : (n : List ℕ) {s : State} → isState n ≡ true → s ≡ stateFrom n → s ≡ stateIn n
+pub state-held : (n : List ℕ) {s : State} → isState n ≡ true → s ≡ stateFrom n → s ≡ stateOrNone n
 state-held n e f = rw e f
 
-pub state-none : (n : List ℕ) {s : State} → isState n ≡ false → s ≡ blank → s ≡ stateIn n
+pub state-none : (n : List ℕ) {s : State} → isState n ≡ false → s ≡ blank → s ≡ stateOrNone n
 state-none n e f = rw e f
 
 -- ---- storing

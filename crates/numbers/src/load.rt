@@ -3,7 +3,7 @@ ghost use mathlib.Core.Path.{_≡_};
 ghost use mathlib.Core.Bool.{true};
 ghost use Prim.Native.Nat.{_%_};
 ghost use lib.ListN.{getD, take, drop};
-ghost use Rattle.numbers.specs.Numbers.{thresholdsAt, isSettings, isState, settingsFrom, phaseFrom, marksFrom, stateFrom, settingsIn, stateIn};
+ghost use Rattle.numbers.specs.Numbers.{thresholdsAt, isSettings, isState, settingsFrom, phaseFrom, marksFrom, stateFrom, settingsOrNone, stateOrNone};
 use crate::held::is_settings;
 use crate::held::is_state;
 use settings::Settings;
@@ -61,8 +61,8 @@ fn settings_from(numbers: &[u64]) -> Settings
 }
 
 // Numbers that are no settings give what stands for none.
-pub fn settings_in(numbers: &[u64]) -> Settings
-    ensures { λ r. ⌜ r ≡ settingsIn (now (numbers .entry)) ⌝ }
+pub fn settings_or_none(numbers: &[u64]) -> Settings
+    ensures { λ r. ⌜ r ≡ settingsOrNone (now (numbers .entry)) ⌝ }
 {
     if is_settings(numbers) {
         return settings_from(numbers);
@@ -118,8 +118,8 @@ fn state_from(numbers: &[u64]) -> State
 }
 
 // Numbers that are no state give what stands for none.
-pub fn state_in(numbers: &[u64]) -> State
-    ensures { λ r. ⌜ r ≡ stateIn (now (numbers .entry)) ⌝ }
+pub fn state_or_none(numbers: &[u64]) -> State
+    ensures { λ r. ⌜ r ≡ stateOrNone (now (numbers .entry)) ⌝ }
 {
     if is_state(numbers) {
         return state_from(numbers);

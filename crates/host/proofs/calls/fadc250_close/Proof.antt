@@ -7,7 +7,7 @@ use Rattle.host.proofs.calls.fadc250_close.Tie as tie
 returns : tie.Need-returns
 returns c =
     let made = c .before .before .before .before .before .before in
-    close-face _ _ _ (made .before .before .state-in .ensures) (made .close .ensures) (c .before .before .put-answer .ensures)
+    close-face _ _ _ (made .before .before .state-or-none .ensures) (made .close .ensures) (c .before .before .put-answer .ensures)
 
 pub fadc250-close-spec : {M : Type 1} → statement M
 fadc250-close-spec =

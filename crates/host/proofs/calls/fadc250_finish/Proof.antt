@@ -7,7 +7,7 @@ use Rattle.host.proofs.calls.fadc250_finish.Tie as tie
 returns : tie.Need-returns
 returns c =
     let made = c .before .before .before .before .before .before .before .before in
-    finish-face _ _ (made .before .before .state-in .ensures) (made .finish .ensures) (c .before .before .before .put-back .ensures) (c .in-high .ensures)
+    finish-face _ _ (made .before .before .state-or-none .ensures) (made .finish .ensures) (c .before .before .before .put-back .ensures) (c .in-high .ensures)
 
 pub fadc250-finish-spec : {M : Type 1} → statement M
 fadc250-finish-spec =

@@ -7,7 +7,7 @@ use Rattle.host.proofs.calls.fadc250_open_block.Tie as tie
 returns : tie.Need-returns
 returns c =
     let made = c .before .before .before .before .before .before in
-    open-block-face _ _ _ _ (made .before .before .state-in .ensures) (made .open-block .ensures) (c .before .before .put-answer .ensures)
+    open-block-face _ _ _ _ (made .before .before .state-or-none .ensures) (made .open-block .ensures) (c .before .before .put-answer .ensures)
 
 pub fadc250-open-block-spec : {M : Type 1} → statement M
 fadc250-open-block-spec =

@@ -7,7 +7,7 @@ use Rattle.host.proofs.calls.fadc250_post.Tie as tie
 returns : tie.Need-returns
 returns c =
     let made = c .before .before .before .before .before .before in
-    post-face _ _ _ _ (made .before .before .state-in .ensures) (made .post .ensures) (c .before .before .put-answer .ensures)
+    post-face _ _ _ _ (made .before .before .state-or-none .ensures) (made .post .ensures) (c .before .before .put-answer .ensures)
 
 pub fadc250-post-spec : {M : Type 1} → statement M
 fadc250-post-spec =

@@ -9,12 +9,12 @@ use Rattle.host.proofs.found.fadc250_find.Tie as tie
 returns : tie.Need-returns
 returns c =
     let done = c .before .before in
-    find-refused _ _ _ _ (done .before .before .settings-in .ensures) (done .before .find .ensures) (c .number .ensures) (sym (done .accepted .ensures) ∙ not-true _ (c .before .if1 .taken))
+    find-refused _ _ _ _ (done .before .before .settings-or-none .ensures) (done .before .find .ensures) (c .number .ensures) (sym (done .accepted .ensures) ∙ not-true _ (c .before .if1 .taken))
 
 returns-2 : tie.Need-returns-2
 returns-2 c =
     let done = c .before .before .before in
-    find-short _ _ _ _ (done .before .before .settings-in .ensures) (done .before .find .ensures) (c .number2 .ensures) (sym (done .accepted .ensures) ∙ not-false _ (c .before .before .if1 .left)) (c .before .if2 .taken)
+    find-short _ _ _ _ (done .before .before .settings-or-none .ensures) (done .before .find .ensures) (c .number2 .ensures) (sym (done .accepted .ensures) ∙ not-false _ (c .before .before .if1 .left)) (c .before .if2 .taken)
 
 put-found-requires : tie.Need-put-found-requires
 put-found-requires c κs = (c .before .before .if2 .left, found-small _ _ _ _ (c .before .before .before .before .before .find .ensures))
@@ -23,7 +23,7 @@ returns-3 : tie.Need-returns-3
 returns-3 c =
     let length-asked = c .before .before .before .before .before in
     let done = length-asked .before .before in
-    find-face _ _ _ _ (done .before .before .settings-in .ensures) (done .before .find .ensures) (sym (done .accepted .ensures) ∙ not-false _ (length-asked .before .if1 .left)) (length-asked .if2 .left) (c .before .before .put-found .ensures)
+    find-face _ _ _ _ (done .before .before .settings-or-none .ensures) (done .before .find .ensures) (sym (done .accepted .ensures) ∙ not-false _ (length-asked .before .if1 .left)) (length-asked .if2 .left) (c .before .before .put-found .ensures)
 
 pub fadc250-find-spec : {M : Type 1} → statement M
 fadc250-find-spec =

@@ -1,9 +1,9 @@
--- `numbers::load::settings_in` meets its contract. Assumes nothing.
+-- `numbers::load::settings_or_none` meets its contract. Assumes nothing.
 use mathlib.Core.Path.{sym, _∙_}
 use borrow.Author.Needs.{needs}
 use Rattle.numbers.specs.StoreLaws.{settings-held, settings-none}
-use Rattle.numbers.proofs.load.settings_in.Statement.{statement}
-use Rattle.numbers.proofs.load.settings_in.Tie as tie
+use Rattle.numbers.proofs.load.settings_or_none.Statement.{statement}
+use Rattle.numbers.proofs.load.settings_or_none.Tie as tie
 
 settings-from-requires : tie.Need-settings-from-requires
 settings-from-requires c κs = sym (c .before .is-settings .ensures) ∙ c .if1 .taken
@@ -16,6 +16,6 @@ returns-2 c =
     let none = c .before in
     settings-none _ (sym (none .before .before .is-settings .ensures) ∙ none .before .if1 .left) (none .no-state .ensures)
 
-pub settings-in-spec : {M : Type 1} → statement M
-settings-in-spec =
+pub settings-or-none-spec : {M : Type 1} → statement M
+settings-or-none-spec =
     tie.close (tie.spec (λ c κs. search needs) settings-from-requires returns (λ c κs. search needs) returns-2)
