@@ -20,9 +20,7 @@ ghost use Rattle.channel.specs.Channel.{commonOf, channelItems};
 ghost use Rattle.event.specs.Event.{timeItems, channelsItems, eventItems};
 ghost use Rattle.event.specs.Inner.{eventLength};
 
-// A time has 48 bits: three of the first time word above its lowest 24, and the second word's 24.
-const TIME_MAX: u64 = 281474976710655;
-
+// The low bits of a time, those of the first time word.
 const BIT_24: u64 = 16777216;
 
 // The words of a channel if it is posted.
@@ -183,7 +181,7 @@ pub fn put_event(
 ) -> usize
     ensures { λ r. ⌜ WrittenIf (lentOk settings (now (posted .entry)) (now (store .entry)) && leb time (2 ^ 48 - 1)) (now (words .entry)) at (wordsOf (eventItems settings number time (now (posted .entry)) (now (store .entry)))) r (now (words .exit)) ⌝ }
 {
-    if !(rows::lent(settings, posted, store) & (time <= TIME_MAX)) {
+    if !(rows::lent(settings, posted, store) & (time <= TriggerTimeHigh::TIME_MAX)) {
         return at;
     }
     if event_short(words.len(), at, settings, posted, store) {
