@@ -20,7 +20,7 @@ ghost use Rattle.channel.specs.Channel.{commonOf, channelItems};
 ghost use Rattle.event.specs.Event.{timeItems, channelsItems, eventItems};
 ghost use Rattle.event.specs.Inner.{eventLength};
 
-// The low bits of a time, those of the first time word.
+// Where the two time words part a time.
 const BIT_24: u64 = 16777216;
 
 // The words of a channel if it is posted.
