@@ -108,9 +108,11 @@ heldIn [] (n ∷ ns) = false
 heldIn (m ∷ ms) [] = false
 heldIn (m ∷ ms) (n ∷ ns) = leb n m && heldIn ms ns
 
+-- settings: each number held by its field
 unfoldable pub isSettings : List ℕ → Bool
 isSettings n = heldIn settingsLimits n
 
+-- a state: its head, then the settings
 unfoldable pub isState : List ℕ → Bool
 isState n = heldIn headLimits (take headCount n) && isSettings (drop headCount n)
 
