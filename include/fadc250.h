@@ -31,8 +31,9 @@ enum fadc250_refusal {
     FADC250_POSTED = 6,       /* post: the channel was already posted in this event */
     FADC250_OUT_OF_TURN = 7,  /* not the phase for this call; an event more than the block states; finish before the last of them */
     FADC250_BAD_NUMBER = 8,   /* block number over 1023, events not 1 to 255, event number over 4194303, time over 2^48 - 1 */
-    FADC250_SHORT_WORDS = 9,  /* the word buffer is too short for all that the call writes; find: fewer than FADC250_FOUND numbers */
-    FADC250_BAD_STATE = 10    /* not FADC250_STATE numbers, or not numbers that a call can have left */
+    FADC250_SHORT_WORDS = 9,  /* the word buffer is too short for all that the call writes */
+    FADC250_BAD_STATE = 10,   /* not FADC250_STATE numbers, one that its field cannot hold, or a state out of its ranges */
+    FADC250_BAD_ARRAY = 64    /* set up's state, find's numbers, a scan or a record: not as many as the header says */
 };
 
 /* The places of the settings. */
@@ -81,8 +82,9 @@ enum fadc250_pulse {
     FADC250_FOUND = 1 + 3 * FADC250_PULSE /* how many numbers it writes */
 };
 
-/* Sets up a run: n settings (FADC250_SETTINGS), and the m numbers (FADC250_STATE) of the state to be filled. Their old values do
-   not matter. Refusals, in this order: 1; 10 if m is not FADC250_STATE. */
+/* Sets up a run: n settings (FADC250_SETTINGS), and the m numbers (FADC250_STATE) of the state to be filled. Their old
+   values do not matter. Refusals, in this order: 1; 64 if m is not FADC250_STATE. A refused call fills FADC250_STATE
+   numbers with zeros, a state that every call refuses with 10; an array of another length stays as it is. */
 uint32_t fadc250_set_up(const uint64_t *settings, size_t n, uint64_t *state, size_t m);
 
 /* Opens a block with its number and how many events it is to hold. Writes the block header and any parameter word to words[0] and
@@ -104,11 +106,13 @@ uint32_t fadc250_close(uint64_t *state, size_t m, const uint16_t *store, size_t 
    Answers the block's length in words, fillers counted, or (refusal << 32), which is never a length. Refusals: 10, 7, 9. */
 uint64_t fadc250_finish(uint64_t *state, size_t m, uint32_t *words, size_t w);
 
-/* Finds the pulses of a window of len samples, whatever the mode, with the threshold of that channel: n settings (FADC250_SETTINGS)
-   and o numbers (FADC250_FOUND or more) to be filled; numbers past FADC250_FOUND stay, and those of pulses past the count are set
-   to 0, the rule too.
-   Refusals, in this order: 1, 4, 5, 3, 9. */
-uint32_t fadc250_find(const uint64_t *settings, size_t n, uint32_t channel, const uint16_t *window, size_t len, uint32_t *out, size_t o);
+/* Finds the pulses of a window of len samples, whatever the mode, with the threshold of that channel: n settings
+   (FADC250_SETTINGS) and o numbers (FADC250_FOUND or more) to be filled; numbers past FADC250_FOUND stay, and those of
+   pulses past the count are set to 0, the rule too. Refusals, in this order: 1, 4, 5, 3, 64 if o is less than
+   FADC250_FOUND. A refused call fills in FADC250_FOUND zeros, no pulses, so that no older window's are taken for this
+   one's; fewer numbers than that stay as they are. */
+uint32_t fadc250_find(const uint64_t *settings, size_t n, uint32_t channel, const uint16_t *window, size_t len,
+                      uint32_t *out, size_t o);
 
 /* Checks one block: n bytes, the words big-endian. It reads the bytes, allocates nothing and writes nothing; n may be 0.
 
@@ -123,6 +127,113 @@ uint32_t fadc250_find(const uint64_t *settings, size_t n, uint32_t channel, cons
      15  the slot differs from the block header's
      16  n is no multiple of 4; place is 0 */
 uint64_t fadc250_check(const uint8_t *bytes, size_t n);
+
+/* ---- Reading a block record by record.
+
+   A scan says where the reading of a block stands: FADC250_SCAN numbers that the host keeps, and may copy to come back to
+   a place. All zeros is the scan before a block's first word. Only fadc250_next moves it; the host need not look into it.
+   The numbers mean the following. */
+enum fadc250_scan_place {
+    FADC250_SCAN_PLACE = 0,  /* the place of the next word, from 0 at the block's first: so many words were read */
+    FADC250_SCAN_SLOT = 1,   /* the block header's slot; 0 before it, and behind a module empty */
+    FADC250_SCAN_LEFT = 2,   /* event headers that are still to come; 0 before the block header */
+    FADC250_SCAN_STAGE = 3,  /* a stage, below */
+    FADC250_SCAN_FIRST = 4,  /* a number that goes with the stage; 0 for a stage without one */
+    FADC250_SCAN_SECOND = 5, /* the same: 0 or 1 */
+    FADC250_SCAN = 6         /* how many numbers a scan is */
+};
+
+/* The stages of a scan: what stands before its place. */
+enum fadc250_stage {
+    FADC250_STAGE_START = 0,  /* nothing: the block's first word is next */
+    FADC250_STAGE_HEAD = 1,   /* the block header */
+    FADC250_STAGE_FRONT = 2,  /* the parameters */
+    FADC250_STAGE_OPENED = 3, /* an event header */
+    FADC250_STAGE_TIMED = 4,  /* a first time word; first: its bits 26-24 */
+    FADC250_STAGE_ITEMS = 5,  /* a second time word or a whole item of an event (of type 4, 7, 8 or 10) */
+    FADC250_STAGE_WINDOW = 6, /* type 4 or one of its pairs; first: pairs to come; second: 1 if the last holds one sample */
+    FADC250_STAGE_RAW = 7,    /* type 6 or one of its pairs; first: pairs that may still come; second: 1 if one was read */
+    FADC250_STAGE_TAIL = 8    /* the trailer, a filler, or a module empty; first: fillers that may still come */
+};
+
+/* The kinds of record. */
+enum fadc250_kind {
+    FADC250_KIND_NONE = 0,        /* none: the call was refused */
+    FADC250_KIND_BLOCK = 1,       /* block header: SLOT, NUMBER, EVENTS */
+    FADC250_KIND_PARAMETERS = 2,  /* parameters: PL, NSB, NSA */
+    FADC250_KIND_EVENT = 3,       /* event header: SLOT, NUMBER */
+    FADC250_KIND_TIME27 = 4,      /* trigger time of one word: TIME, its low 27 bits */
+    FADC250_KIND_TIME48 = 5,      /* trigger time of two words: TIME, all 48 bits */
+    FADC250_KIND_TIME_HIGH = 6,   /* a second time word on its own: TIME, bits 47-24 shifted down (see fadc250_next) */
+    FADC250_KIND_WINDOW = 7,      /* type 4, all samples of a window: CHANNEL, WIDTH, PLACE, PAIRS */
+    FADC250_KIND_PULSE_RAW = 8,   /* type 6, the samples of a pulse: CHANNEL, PULSE, TC, PLACE, PAIRS */
+    FADC250_KIND_PAIR = 9,        /* a pair on its own: FIRST, SECOND, NOT_FIRST, NOT_SECOND (see fadc250_next) */
+    FADC250_KIND_INTEGRAL = 10,   /* type 7: CHANNEL, PULSE, QUALITY, SUM */
+    FADC250_KIND_TIME = 11,       /* type 8: CHANNEL, PULSE, QUALITY, COARSE, FINE */
+    FADC250_KIND_PEDESTAL = 12,   /* type 10: CHANNEL, PULSE, VMIN, VPEAK */
+    FADC250_KIND_TRAILER = 13,    /* trailer: SLOT, WORDS */
+    FADC250_KIND_FILLERS = 14,    /* fillers that follow each other: SLOT, COUNT */
+    FADC250_KIND_EMPTY = 15,      /* module empty: SLOT */
+    FADC250_KIND_END = 16         /* no record: the block has ended */
+};
+
+/* The places of a record's numbers: its kind, then the fields that its kind has. The others are 0. */
+enum fadc250_field {
+    FADC250_KIND = 0,
+    FADC250_FIELD_SLOT = 1,
+    FADC250_FIELD_CHANNEL = 1,
+    FADC250_FIELD_PL = 1,
+    FADC250_FIELD_TIME = 1,
+    FADC250_FIELD_FIRST = 1,      /* a pair's first sample */
+    FADC250_FIELD_NUMBER = 2,     /* of the block, of the event */
+    FADC250_FIELD_PULSE = 2,      /* which pulse of the window, from 0 */
+    FADC250_FIELD_NSB = 2,
+    FADC250_FIELD_WORDS = 2,      /* words from the block header to the trailer */
+    FADC250_FIELD_COUNT = 2,      /* how many fillers */
+    FADC250_FIELD_SECOND = 2,     /* a pair's second sample */
+    FADC250_FIELD_EVENTS = 3,
+    FADC250_FIELD_NSA = 3,
+    FADC250_FIELD_WIDTH = 3,      /* samples of the window */
+    FADC250_FIELD_TC = 3,
+    FADC250_FIELD_QUALITY = 3,
+    FADC250_FIELD_NOT_FIRST = 3,  /* 1: a pair's first sample is not valid */
+    FADC250_FIELD_PLACE = 4,      /* the place of the first word of pairs */
+    FADC250_FIELD_SUM = 4,
+    FADC250_FIELD_COARSE = 4,
+    FADC250_FIELD_VMIN = 4,
+    FADC250_FIELD_NOT_SECOND = 4, /* 1: a pair's second sample is not valid */
+    FADC250_FIELD_PAIRS = 5,      /* how many words of pairs */
+    FADC250_FIELD_FINE = 5,
+    FADC250_FIELD_VPEAK = 5,
+    FADC250_RECORD = 6            /* how many numbers a record is */
+};
+
+/* Reads the next record of a block: w words, words[0] the block's first, in the host's own order (fadc250_from_bytes makes
+   them of bytes); k numbers of a scan; and r numbers (FADC250_RECORD or more) to be filled; what is past FADC250_RECORD
+   stays.
+
+   Accepted, it fills in the record, moves the scan behind it and answers how many words of the block were read so far,
+   less than 2^32. A raw item is read with all its pairs, a time with its second word, fillers together. At the block's end
+   the kind is FADC250_KIND_END, the scan stays, and the answer is the block's length, as fadc250_check gives it; the next
+   block starts at words + that number, with a scan of zeros.
+
+   Refused, it answers (refusal << 32) + place, as fadc250_check does for the same block: 11 to 15. Then the scan stays,
+   and the record is filled with zeros. (64 << 32) if the numbers are no scan (not FADC250_SCAN, a stage over 8, a second
+   number over 1), and, after all others, if r is less than FADC250_RECORD: such a record stays as it is.
+
+   FADC250_KIND_TIME_HIGH and FADC250_KIND_PAIR come only to a scan that the host made itself. */
+uint64_t fadc250_next(uint32_t *scan, size_t k, const uint32_t *words, size_t w, uint64_t *record, size_t r);
+
+/* The samples of a raw item: place and pairs are the record's FADC250_FIELD_PLACE and FADC250_FIELD_PAIRS, the w words
+   those that it was read from. A sample has thirteen bits, bit 12 the overflow flag; one that is marked not valid is left
+   out. Answers how many they are; none if the pairs do not lie in the words. Writes them to samples[0] on if they fit into
+   s; if not, it writes nothing. It is never refused. */
+uint64_t fadc250_samples(const uint32_t *words, size_t w, uint32_t place, uint32_t pairs, uint16_t *samples, size_t s);
+
+/* The lister's text of n bytes, without its limit of 65,536: a line a record, block after block up to the first refusal;
+   `refused 16 0` if n is no multiple of 4. docs/FORMAT.md has the lines. Answers how many characters the text has. Writes
+   it to text[0] on, without an end mark, if it fits into t; if not, it writes nothing. It is never refused. */
+uint64_t fadc250_list(const uint8_t *bytes, size_t n, uint8_t *text, size_t t);
 
 /* An example, one block of one event; examples/bench.c is a whole program.
 
