@@ -100,7 +100,7 @@ module _ (m : List ℕ) (number : Settings → ℕ) (none : number (blank .setti
       go true = refl
       go false = none
 
-  pub settings-accepted : number (settingsOrNone m) ≡ 0 → isSettings m ≡ true
+  settings-accepted : number (settingsOrNone m) ≡ 0 → isSettings m ≡ true
   settings-accepted e = go (isSettings m) e
     where
       go : (b : Bool) → number (cond b (settingsFrom m) (blank .settings)) ≡ 0 → b ≡ true
