@@ -1,5 +1,5 @@
 -- Demands 1 to 3 from C, what is said: runs of the C calls, over the numbers that the host lends; and when a C call is the library's. Assumes nothing.
-use Prim.Native.Nat.{ℕ, _-_, _^_, _≤_}
+use Prim.Native.Nat.{ℕ, _*_, _-_, _^_, _≤_}
 use mathlib.Core.Path.{_≡_}
 use mathlib.Core.Bool.{true, false}
 use mathlib.Core.List.{List, [], _∷_, _++_}
@@ -12,7 +12,7 @@ use Rattle.find.specs.Call.{FindSays}
 use Rattle.items.specs.declared.Item.{Item}
 use Rattle.writer.specs.declared.Answer.{Answer}
 use Rattle.writer.specs.declared.Finished.{Finished}
-use Rattle.writer.specs.Calls.{ifAccepted, SetUpSays, FinishSays}
+use Rattle.writer.specs.Calls.{SetUpSays, FinishSays}
 use Rattle.block.specs.Block.{blockItems}
 use Rattle.refusing.specs.Tables.{closingItems}
 use Rattle.numbers.specs.Numbers.{isState, settingsFrom, stateFrom}
@@ -38,19 +38,27 @@ pub record SetUpCall (settings : List ℕ) (r : ℕ) (n′ : List ℕ) : Type 0 
   pub number : numberOf (answer .refusal) ≡ r
   pub state : r ≡ 0 → Loads n′ (answer .state)
 
--- and of a finish, which answers "refusal * 2^32, or the block's length in words"
+-- and of a finish, which answers the refusal times 2^32, or the block's length in words
 pub record FinishCall (n words : List ℕ) (r : ℕ) (n′ words′ : List ℕ) : Type 0 where
   pub answer : Finished
   pub said : FinishSays (stateFrom n) words answer words′
   pub number : inHigh (numberOf (answer .refusal)) (answer .length) ≡ r
   pub state : Loads n′ (answer .state)
 
--- and of the finder: the numbers of the pulses that it answers
+-- and of the finder: the numbers of the pulses that it answers, which are none where it refuses
 pub record FindCall (settings : List ℕ) (c : ℕ) (w out : List ℕ) (r : ℕ) (out′ : List ℕ) : Type 0 where
   pub answer : FindAnswer
   pub said : FindSays (settingsFrom settings) c w answer
   pub number : numberOf (answer .refusal) ≡ r
-  pub found : out′ ≡ ifAccepted r (splice out 0 (foundNumbers (answer .found))) out
+  pub found : out′ ≡ splice out 0 (foundNumbers (answer .found))
+
+-- numbers that no call takes for a state: each refuses them with 10
+pub record TakenByNone (n : List ℕ) : Type 0 where
+  pub open-block : (words : List ℕ) (block events r : ℕ) (n′ words′ : List ℕ) → OpenBlockFace n words block events r n′ words′ → r ≡ 10
+  pub open-event : (event time r : ℕ) (n′ : List ℕ) → OpenEventFace n event time r n′ → r ≡ 10
+  pub post : (store : List ℕ) (c : ℕ) (w : List ℕ) (r : ℕ) (n′ store′ : List ℕ) → PostFace n store c w r n′ store′ → r ≡ 10
+  pub close : (store words : List ℕ) (r : ℕ) (n′ words′ : List ℕ) → CloseFace n store words r n′ words′ → r ≡ 10
+  pub finish : (words : List ℕ) (r : ℕ) (n′ words′ : List ℕ) → FinishFace n words r n′ words′ → r ≡ 10 * 2 ^ 32
 
 -- ---- a run of C calls
 

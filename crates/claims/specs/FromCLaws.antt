@@ -1,4 +1,4 @@
--- One C call: refused exactly when its table says, and nothing altered then; on the numbers of a state it is the library's call. Assumes nothing.
+-- One C call: refused exactly when its table says, and nothing altered or nothing old left then; on the numbers of a state it is the library's call. Assumes nothing.
 use Prim.Native.Nat.{ℕ, zero, suc, _+_, _*_, _/_, _^_, _≤_, _<_}
 use mathlib.Core.Path.{_≡_, refl, sym, ap, ap₂, _∙_, subst}
 use mathlib.Core.Bool.{Bool, true, false, not, cond, _&&_}
@@ -6,7 +6,8 @@ use mathlib.Core.List.{List, [], _∷_, _++_}
 use native.Mathlib.Omega.{arith}
 use borrow.Author.Tests.{leb-true, ltb-true, le-ltb, eq-eqb, ne-eqb}
 use lib.Dec.{eqb, leb, ltb}
-use lib.ListN.{length, getD}
+use lib.ListN.{length, getD, replicate}
+use Rattle.ground.specs.Splice.{splice}
 use Rattle.ground.specs.Tests.{firstOf, this-row}
 use Rattle.ground.specs.TestsLaws.{and-left, and-right, numbered}
 use Rattle.refusals.specs.declared.Refusal.{Refusal}
@@ -18,18 +19,20 @@ use Rattle.find.specs.Call.{findTable, findNumber, foundPulses}
 use Rattle.find.specs.RulesLaws.{find-says}
 use Rattle.state.specs.declared.State.{State}
 use Rattle.writer.specs.declared.Answer.{Answer}
-use Rattle.state.specs.State.{idle, blank, withEvent}
+use Rattle.state.specs.State.{stateOk, idle, blank, withEvent}
 use Rattle.writer.specs.Calls.{ifAccepted, OpenBlockSays, OpenEventSays, PostSays, CloseSays}
 use Rattle.refusing.specs.Tables.{setUpNumber, openBlockTable, openBlockNumber, openEventTable, openEventNumber, postTable, postNumber, closeTable, closeNumber, finishTable, finishNumber}
 use Rattle.block.specs.Block.{endItems}
 use Rattle.writer.specs.CallsLaws.{done, refused}
-use Rattle.numbers.specs.Numbers.{isSettings, isState, settingsFrom, stateFrom, numbersOf}
-use Rattle.host.specs.Face.{onState, onSettings, orElse, blockOpened, posted, eventClosed, finishOn, inHigh, SetUpFace, OpenBlockFace, OpenEventFace, PostFace, CloseFace, FinishFace, FindFace}
+use Rattle.numbers.specs.Numbers.{heldIn, isSettings, isState, settingsFrom, table, marksFrom, stateFrom, numbersOf}
+use Rattle.host.specs.Face.{onState, onSettings, orElse, blockOpened, posted, eventClosed, finishOn, inHigh, foundNumbers, SetUpFace, OpenBlockFace, OpenEventFace, PostFace, CloseFace, FinishFace, FindFace}
+use Rattle.host.specs.FaceLaws.{none-later}
+use Rattle.host.specs.FoundLaws.{found-or-zeros}
 use Rattle.numbers.specs.BackLaws.{Loads, numbers-back}
 use Rattle.host.specs.LoadsLaws.{set-up-loads, open-block-loads, open-event-loads, post-loads, close-loads, finish-loads, finish-below}
 use Rattle.claims.specs.Tables.{Exactly, exactly}
 use Rattle.claims.specs.OrderLaws.{zero-or}
-use Rattle.claims.specs.FromC.{Call, SetUpCall, FinishCall, FindCall}
+use Rattle.claims.specs.FromC.{Call, SetUpCall, FinishCall, FindCall, TakenByNone}
 
 -- ---- "exactly when the table says"
 
@@ -95,29 +98,26 @@ setting m rows more h = go (isSettings m)
     go false = refl
 
 pub c-set-up-exactly : (m n : List ℕ) (r : ℕ) (n′ : List ℕ) → SetUpFace m n r n′
-    → Exactly ((1, not (isSettings m)) ∷ (1, not (settingsOk (settingsFrom m))) ∷ (10, not (eqb (length n) 34)) ∷ []) r
+    → Exactly ((1, not (isSettings m)) ∷ (1, not (settingsOk (settingsFrom m))) ∷ (64, not (eqb (length n) 34)) ∷ []) r
 unfolding setUpNumber firstOf
 c-set-up-exactly m n r n′ f =
     exactly _ (f .number ∙ (ap (orElse (onSettings m (setUpNumber (settingsFrom m)))) (go (eqb (length n) 34))
-    ∙ setting m ((1, not (settingsOk (settingsFrom m))) ∷ []) ((10, not (eqb (length n) 34)) ∷ []) refl))
+    ∙ setting m ((1, not (settingsOk (settingsFrom m))) ∷ []) ((64, not (eqb (length n) 34)) ∷ []) refl))
   where
-    go : (b : Bool) → cond {A = ℕ} b 0 10 ≡ cond (not b) 10 0
+    go : (b : Bool) → cond {A = ℕ} b 0 64 ≡ cond (not b) 64 0
     go true = refl
     go false = refl
 
 pub c-find-exactly : (m : List ℕ) (c : ℕ) (w out : List ℕ) (r : ℕ) (out′ : List ℕ) → FindFace m c w out r out′
-    → Exactly ((1, not (isSettings m)) ∷ (findTable (settingsFrom m) c w ++ ((9, ltb (length out) 28) ∷ []))) r
+    → Exactly ((1, not (isSettings m)) ∷ (findTable (settingsFrom m) c w ++ ((64, ltb (length out) 28) ∷ []))) r
 unfolding findNumber findTable firstOf
-c-find-exactly m c w out r out′ f = exactly _ (f .number ∙ setting m (findTable (settingsFrom m) c w) ((9, ltb (length out) 28) ∷ []) refl)
+c-find-exactly m c w out r out′ f = exactly _ (f .number ∙ setting m (findTable (settingsFrom m) c w) ((64, ltb (length out) 28) ∷ []) refl)
 
 -- "10" for numbers that are no state
 pub no-state : (n : List ℕ) (rows : List (ℕ × Bool)) (r : ℕ) → isState n ≡ false → Exactly ((10, not (isState n)) ∷ rows) r → r ≡ 10
 no-state n rows r e x = x .always 10 (this-row (10, not (isState n)) rows (ap not e))
 
 -- ---- "returns the state it was handed and alters no sample or word"
-
-pub c-set-up-refused : (m n : List ℕ) (r : ℕ) (n′ : List ℕ) → SetUpFace m n r n′ → (r ≡ 0 → ⊥) → n′ ≡ n
-c-set-up-refused m n r n′ f ne = f .numbers ∙ refused r _ _ ne
 
 pub c-open-block-refused : (n words : List ℕ) (block events r : ℕ) (n′ words′ : List ℕ) → OpenBlockFace n words block events r n′ words′ → (r ≡ 0 → ⊥)
     → (n′ ≡ n) × (words′ ≡ words)
@@ -148,8 +148,52 @@ below n words r n′ words′ f l =
 pub c-finish-refused : (n words : List ℕ) (r : ℕ) (n′ words′ : List ℕ) → FinishFace n words r n′ words′ → 2 ^ 32 ≤ r → (n′ ≡ n) × (words′ ≡ words)
 c-finish-refused n words r n′ words′ f l = let ne = over n words r n′ words′ f l in (f .numbers ∙ refused _ _ _ ne, f .buffer ∙ refused _ _ _ ne)
 
-pub c-find-refused : (m : List ℕ) (c : ℕ) (w out : List ℕ) (r : ℕ) (out′ : List ℕ) → FindFace m c w out r out′ → (r ≡ 0 → ⊥) → out′ ≡ out
-c-find-refused m c w out r out′ f ne = f .numbers ∙ refused r _ _ ne
+-- ---- nothing old is left
+
+-- a refused set up leaves 34 zeros; numbers that are not 34 stay
+pub c-set-up-refused : (m n : List ℕ) (r : ℕ) (n′ : List ℕ) → SetUpFace m n r n′ → (r ≡ 0 → ⊥) → n′ ≡ cond (eqb (length n) 34) (replicate 34 0) n
+c-set-up-refused m n r n′ f ne = f .numbers ∙ ap (λ (l : List ℕ). cond (eqb (length n) 34) l n) (refused r (numbersOf (idle (settingsFrom m))) _ ne)
+
+-- which are the numbers of a state, but of one whose mode, 0, is none
+zeros-state : isState (replicate 34 0) ≡ true
+unfolding isState isSettings heldIn
+zeros-state = refl
+
+zeros-out : stateOk (stateFrom (replicate 34 0)) ≡ false
+unfolding Rattle.state.specs.State.allOpen stateFrom settingsFrom marksFrom table
+zeros-out = refl
+
+zeros-ten : (rows : List (ℕ × Bool)) → onState (replicate 34 0) (firstOf ((10, not (stateOk (stateFrom (replicate 34 0)))) ∷ rows)) ≡ 10
+unfolding firstOf
+zeros-ten rows = rw (zeros-state, zeros-out)
+
+pub zeros-taken-by-none : TakenByNone (replicate 34 0)
+unfolding openBlockNumber openBlockTable openEventNumber openEventTable postNumber postTable closeNumber closeTable finishNumber finishTable
+zeros-taken-by-none =
+    record {
+      open-block = λ words block events r n′ words′ f. f .number ∙ zeros-ten _;
+      open-event = λ event time r n′ f. f .number ∙ zeros-ten _;
+      post = λ store c w r n′ store′ f. f .number ∙ zeros-ten _;
+      close = λ store words r n′ words′ f. f .number ∙ zeros-ten _;
+      finish = λ words r n′ words′ f. f .number ∙ in-high _ _ (zeros-ten _);
+    }
+  where
+    in-high : (k size : ℕ) → k ≡ 10 → inHigh k size ≡ 10 * 2 ^ 32
+    in-high k size e = rw e
+
+-- a refused set up leaves no state that a call takes
+pub c-set-up-leaves-none : (m n : List ℕ) (r : ℕ) (n′ : List ℕ) → SetUpFace m n r n′ → (r ≡ 0 → ⊥) → length n ≡ 34 → TakenByNone n′
+c-set-up-leaves-none m n r n′ f ne l = rw (c-set-up-refused m n r n′ f ne, eq-eqb (length n) 34 l) zeros-taken-by-none
+
+-- a refused find leaves 28 zeros, and what is past them; fewer than 28 stay
+pub c-find-refused : (m : List ℕ) (c : ℕ) (w out : List ℕ) (r : ℕ) (out′ : List ℕ) → FindFace m c w out r out′ → (r ≡ 0 → ⊥)
+    → out′ ≡ cond (ltb (length out) 28) out (splice out 0 (replicate 28 0))
+c-find-refused m c w out r out′ f ne = f .numbers ∙ ap (λ (l : List ℕ). cond (ltb (length out) 28) out (splice out 0 l)) (refused r _ _ ne)
+
+-- so that it tells of no pulse: the count is 0
+pub c-find-tells-none : (m : List ℕ) (c : ℕ) (w out : List ℕ) (r : ℕ) (out′ : List ℕ) → FindFace m c w out r out′ → (r ≡ 0 → ⊥) → 28 ≤ length out → getD out′ 0 0 ≡ 0
+unfolding splice
+c-find-tells-none m c w out r out′ f ne l = rw (c-find-refused m c w out r out′ f ne, le-ltb (length out) 28 l)
 
 -- ---- a C call on a state is the library's call
 
@@ -266,10 +310,6 @@ finish-call n words r n′ words′ e f =
     twice true size other = refl
     twice false size other = refl
 
--- no later refusal
-none-later : (k : ℕ) → orElse k 0 ≡ k
-none-later k = zero-or k (λ z. done 0 k z ∙ sym z) (λ ne. refused k 0 k ne)
-
 -- a set up with the numbers of settings, into 34 numbers
 pub set-up-call : (m n : List ℕ) (r : ℕ) (n′ : List ℕ) → isSettings m ≡ true → length n ≡ 34 → SetUpFace m n r n′ → SetUpCall m r n′
 unfolding setUpNumber
@@ -277,7 +317,7 @@ set-up-call m n r n′ e l f =
     let rows : List (ℕ × Bool) = (1, not (settingsOk (settingsFrom m))) ∷ [] in
     let k : ℕ = firstOf rows in
     let same : r ≡ k =
-    f .number ∙ (ap₂ (λ (a b : Bool). orElse (cond a k 1) (cond b 0 10)) e (eq-eqb (length n) 34 l) ∙ none-later k) in
+    f .number ∙ (ap₂ (λ (a b : Bool). orElse (cond a k 1) (cond b 0 64)) e (eq-eqb (length n) 34 l) ∙ none-later k) in
     record {
       answer = record { refusal = refusalIn rows; state = ifAccepted k (idle (settingsFrom m)) blank };
       said = record { refusal = number-in rows refl; state = refl };
@@ -289,12 +329,14 @@ set-up-call m n r n′ e l f =
 pub find-call : (m : List ℕ) (c : ℕ) (w out : List ℕ) (r : ℕ) (out′ : List ℕ) → isSettings m ≡ true → 28 ≤ length out → FindFace m c w out r out′ → FindCall m c w out r out′
 unfolding findNumber findTable
 find-call m c w out r out′ e l f =
-    let rows = findTable (settingsFrom m) c w in
+    let s = settingsFrom m in
+    let rows = findTable s c w in
     let k : ℕ = firstOf rows in
-    let same : r ≡ k = f .number ∙ (ap₂ (λ (a b : Bool). orElse (cond a k 1) (cond b 9 0)) e (le-ltb (length out) 28 l) ∙ none-later k) in
+    let numbers = foundNumbers (packed (foundPulses s c w)) in
+    let same : r ≡ k = f .number ∙ (ap₂ (λ (a b : Bool). orElse (cond a k 1) (cond b 64 0)) e (le-ltb (length out) 28 l) ∙ none-later k) in
     record {
-      answer = record { refusal = refusalIn rows; found = packed (foundPulses (settingsFrom m) c w) };
-      said = find-says (settingsFrom m) c w (number-in rows refl) refl;
+      answer = record { refusal = refusalIn rows; found = packed (foundPulses s c w) };
+      said = find-says s c w (number-in rows refl) refl;
       number = number-in rows refl ∙ sym same;
-      found = f .numbers;
+      found = f .numbers ∙ rw (le-ltb (length out) 28 l) (ap (splice out 0) (ap (λ (i : ℕ). ifAccepted i numbers (replicate 28 0)) same ∙ found-or-zeros s c w));
     }

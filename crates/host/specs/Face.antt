@@ -34,6 +34,10 @@ onSettings n number = cond (isSettings n) number (numberOf R.Setting)
 abbrev pub orElse : ℕ → ℕ → ℕ
 orElse number later = cond (eqb number 0) later number
 
+-- the number for an array that is not as long as the header says; the paper has none
+abbrev pub badArray : ℕ
+badArray = 64
+
 -- the states that opening a block, posting and closing give
 abbrev pub blockOpened : State → ℕ → ℕ → State
 blockOpened s block events = withBlock s block events (s .words + length (blockItems (s .settings) block events))
@@ -44,10 +48,10 @@ posted s c = withMark s (set (s .posted) c true)
 abbrev pub eventClosed : State → List ℕ → State
 eventClosed s store = withClosed s (s .words + length (closingItems s store))
 
--- numbers that are not as many as a state's cannot take one: 10, after the settings
+-- numbers that are not as many as a state's stay; a refused call leaves zeros, so that no old state is taken for the new one
 pub record SetUpFace (settings n : List ℕ) (r : ℕ) (n′ : List ℕ) : Type 0 where
-  pub number : r ≡ orElse (onSettings settings (setUpNumber (settingsFrom settings))) (cond (eqb (length n) stateCount) 0 (numberOf R.State))
-  pub numbers : n′ ≡ ifAccepted r (numbersOf (idle (settingsFrom settings))) n
+  pub number : r ≡ orElse (onSettings settings (setUpNumber (settingsFrom settings))) (cond (eqb (length n) stateCount) 0 badArray)
+  pub numbers : n′ ≡ cond (eqb (length n) stateCount) (ifAccepted r (numbersOf (idle (settingsFrom settings))) (replicate stateCount 0)) n
 
 pub record OpenBlockFace (n words : List ℕ) (block events r : ℕ) (n′ words′ : List ℕ) : Type 0 where
   pub number : r ≡ onState n (openBlockNumber (stateFrom n) (length words) block events)
@@ -72,7 +76,7 @@ pub record CloseFace (n store words : List ℕ) (r : ℕ) (n′ words′ : List 
 abbrev pub finishOn : List ℕ → ℕ → ℕ
 finishOn n room = onState n (finishNumber (stateFrom n) room)
 
--- the answer: "refusal * 2^32, or the block's length in words"
+-- the answer: the refusal times 2^32, or the block's length in words
 abbrev pub inHigh : ℕ → ℕ → ℕ
 inHigh number size = ifAccepted number size (number * 2 ^ 32)
 
@@ -93,18 +97,19 @@ pulseNumbers p =
 abbrev pub pulseCount : ℕ
 pulseCount = 9
 
--- "zeros past the count"
+-- the numbers of a place, zeros past the count
 unfoldable pub pulseRow : Pulses → ℕ → List ℕ
 pulseRow found i = cond (ltb i (found .count)) (pulseNumbers (getD (found .pulses) i noPulse)) (replicate pulseCount 0)
 
--- "the count, then for each of three pulses"
+-- the count, then the numbers of three places
 abbrev pub foundCount : ℕ
 foundCount = 1 + 3 * pulseCount
 
 unfoldable pub foundNumbers : Pulses → List ℕ
 foundNumbers found = found .count ∷ (pulseRow found 0 ++ (pulseRow found 1 ++ pulseRow found 2))
 
--- fewer lent: the buffer is "too short for all that call writes", after the others
+-- fewer lent stay; a refused call leaves zeros, "and then no pulses", so that no older window's are taken for this one's; what is past them stays
 pub record FindFace (settings : List ℕ) (c : ℕ) (w out : List ℕ) (r : ℕ) (out′ : List ℕ) : Type 0 where
-  pub number : r ≡ orElse (onSettings settings (findNumber (settingsFrom settings) c w)) (cond (ltb (length out) foundCount) (numberOf R.Room) 0)
-  pub numbers : out′ ≡ ifAccepted r (splice out 0 (foundNumbers (packed (foundPulses (settingsFrom settings) c w)))) out
+  pub number : r ≡ orElse (onSettings settings (findNumber (settingsFrom settings) c w)) (cond (ltb (length out) foundCount) badArray 0)
+  pub numbers : out′
+      ≡ cond (ltb (length out) foundCount) out (splice out 0 (ifAccepted r (foundNumbers (packed (foundPulses (settingsFrom settings) c w))) (replicate foundCount 0)))

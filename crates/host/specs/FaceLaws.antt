@@ -6,7 +6,7 @@ use mathlib.Core.List.{List, _++_}
 use native.Mathlib.Omega.{arith}
 use borrow.Author.Tests.{eq-eqb, ne-eqb, eqb-true}
 use lib.Dec.{eqb}
-use lib.ListN.{length, drop}
+use lib.ListN.{length, drop, replicate}
 use Rattle.ground.specs.Splice.{splice}
 use Rattle.ground.specs.Tests.{firstOf}
 use Rattle.settings.specs.declared.Settings.{Settings}
@@ -23,11 +23,11 @@ use Rattle.writer.specs.Calls.{ifAccepted, SetUpSays, OpenBlockSays, OpenEventS
 use Rattle.refusing.specs.Tables.{setUpNumber, openBlockTable, openBlockNumber, openEventTable, openEventNumber, postTable, postNumber, closingItems, closeTable, closeNumber, finishTable, finishNumber}
 use Rattle.block.specs.Block.{blockItems, endItems}
 use Rattle.writer.specs.CallsLaws.{done}
-use Rattle.numbers.specs.Numbers.{settingsCount, headCount, stateCount, isSettings, isState, settingsFrom, stateFrom, settingsOrNone, stateOrNone, settingsNumbers, headOf, numbersOf, headStored, stateStored}
+use Rattle.numbers.specs.Numbers.{headCount, stateCount, isSettings, isState, settingsFrom, stateFrom, settingsOrNone, stateOrNone, settingsNumbers, headOf, numbersOf, headStored, stateStored}
 use Rattle.numbers.specs.NumbersLaws.{settings-count, state-count, state-settings-held}
 use Rattle.numbers.specs.StoreLaws.{head-over}
 use Rattle.numbers.specs.BackLaws.{settings-back}
-use Rattle.host.specs.Face.{onState, onSettings, orElse, blockOpened, posted, eventClosed, finishOn, inHigh, SetUpFace, OpenBlockFace, OpenEventFace, PostFace, CloseFace, FinishFace}
+use Rattle.host.specs.Face.{onState, onSettings, orElse, badArray, blockOpened, posted, eventClosed, finishOn, inHigh, SetUpFace, OpenBlockFace, OpenEventFace, PostFace, CloseFace, FinishFace}
 use Rattle.host.specs.Inner.{Kept}
 
 -- the head of a state with these settings, over the numbers
@@ -78,6 +78,14 @@ kept-refused n number s r e f = record { answer = f; left = rw e }
 
 -- ---- settings
 
+-- no later refusal
+pub none-later : (k : ℕ) → orElse k 0 ≡ k
+none-later k = go (eqb k 0) refl
+  where
+    go : (b : Bool) → eqb k 0 ≡ b → cond b 0 k ≡ k
+    go true e = sym (eqb-true k 0 e)
+    go false e = refl
+
 -- what stands for none is out of range
 pub none-out : settingsOk (blank .settings) ≡ false
 unfolding blank idle settingsOk ranges
@@ -92,7 +100,7 @@ module _ (m : List ℕ) (number : Settings → ℕ) (none : number (blank .setti
       go true = refl
       go false = none
 
-  pub settings-accepted : number (settingsOrNone m) ≡ 0 → isSettings m ≡ true
+  settings-accepted : number (settingsOrNone m) ≡ 0 → isSettings m ≡ true
   settings-accepted e = go (isSettings m) e
     where
       go : (b : Bool) → number (cond b (settingsFrom m) (blank .settings)) ≡ 0 → b ≡ true
@@ -109,16 +117,15 @@ module _ (m n : List ℕ) {s : Settings} {a : Answer} (f : s ≡ settingsOrNone 
   first-number : (later : ℕ) → orElse (onSettings m (setUpNumber (settingsFrom m))) later ≡ orElse (numberOf (a .refusal)) later
   first-number later = ap (λ (k : ℕ). orElse k later) (sym (d .refusal ∙ ap setUpNumber f ∙ settings-number m setUpNumber set-up-out))
 
-  pub set-up-refused : {r : ℕ} → r ≡ numberOf (a .refusal) → eqb (numberOf (a .refusal)) 0 ≡ false → SetUpFace m n r n
-  set-up-refused g h =
-      let later : ℕ = cond (eqb (length n) stateCount) 0 (numberOf R.State) in
-      record {
-        number = g ∙ sym (first-number later ∙ ap (λ (b : Bool). cond b later (numberOf (a .refusal))) h);
-        numbers = rw (ap (λ (k : ℕ). eqb k 0) g ∙ h);
-      }
+  pub set-up-other : {r : ℕ} → r ≡ orElse (numberOf (a .refusal)) badArray → (length n ≡ stateCount → ⊥) → SetUpFace m n r n
+  set-up-other g k = record { number = rw (ne-eqb _ _ k) (g ∙ sym (first-number badArray)); numbers = rw (ne-eqb _ _ k) }
 
-  pub set-up-other : {r : ℕ} → r ≡ numberOf R.State → eqb (numberOf (a .refusal)) 0 ≡ true → (length n ≡ stateCount → ⊥) → SetUpFace m n r n
-  set-up-other g h k = rw g (record { number = sym (first-number (cond (eqb (length n) stateCount) 0 (numberOf R.State)) ∙ rw (h, ne-eqb _ _ k)); numbers = refl })
+  pub set-up-refused : {r : ℕ} {n′ : List ℕ} → length n ≡ stateCount → eqb (numberOf (a .refusal)) 0 ≡ false → n′ ≡ replicate (length n) 0 → r ≡ numberOf (a .refusal) → SetUpFace m n r n′
+  set-up-refused k h e g =
+      record {
+        number = rw (eq-eqb _ _ k) (g ∙ sym (first-number 0 ∙ none-later (numberOf (a .refusal))));
+        numbers = rw (eq-eqb _ _ k, ap (λ (j : ℕ). eqb j 0) g ∙ h) (e ∙ ap (λ (j : ℕ). replicate j 0) k);
+      }
 
   pub set-up-face : {n′ : List ℕ} → eqb (numberOf (a .refusal)) 0 ≡ true → length n ≡ stateCount → n′ ≡ stateStored n (a .state) m → SetUpFace m n 0 n′
   unfolding numbersOf idle
@@ -129,8 +136,8 @@ module _ (m n : List ℕ) {s : Settings} {a : Answer} (f : s ≡ settingsOrNone 
       let state : a .state ≡ idle s = d .state ∙ done (idle s) blank accepted in
       let whole : stateStored n (a .state) m ≡ headOf (a .state) ++ m = rw (eq-eqb _ _ k, eq-eqb _ _ (settings-count m e)) in
       record {
-        number = sym (first-number (cond (eqb (length n) stateCount) 0 (numberOf R.State)) ∙ rw (h, eq-eqb _ _ k));
-        numbers = g ∙ whole ∙ ap (λ (x : State). headOf x ++ m) (state ∙ ap idle same) ∙ ap (λ (l : List ℕ). headOf (idle (settingsFrom m)) ++ l) (sym (settings-back m e));
+        number = rw (eq-eqb _ _ k) (sym (first-number 0 ∙ rw h));
+        numbers = rw (eq-eqb _ _ k) (g ∙ whole ∙ ap (λ (x : State). headOf x ++ m) (state ∙ ap idle same) ∙ ap (λ (l : List ℕ). headOf (idle (settingsFrom m)) ++ l) (sym (settings-back m e)));
       }
 
 -- ---- open a block

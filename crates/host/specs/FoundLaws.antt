@@ -22,10 +22,11 @@ use Rattle.finder.specs.Find.{noPulse, packed}
 use Rattle.finder.specs.RangeLaws.{PulseFits, EachFits, fits-at, pulses-fit, pulses-count, packed-count, packed-at}
 use Rattle.find.specs.Call.{findTable, findNumber, channelPulses, foundPulses, FindSays}
 use Rattle.find.specs.CallLaws.{accepted, found-none, found-all}
+use Rattle.writer.specs.Calls.{ifAccepted}
 use Rattle.state.specs.State.{blank}
 use Rattle.numbers.specs.Numbers.{isSettings, settingsFrom, settingsOrNone}
-use Rattle.host.specs.Face.{onSettings, orElse, pulseNumbers, pulseCount, pulseRow, foundCount, foundNumbers, FindFace}
-use Rattle.host.specs.FaceLaws.{none-out, settings-number, settings-accepted}
+use Rattle.host.specs.Face.{onSettings, orElse, badArray, pulseNumbers, pulseCount, pulseRow, foundCount, foundNumbers, FindFace}
+use Rattle.host.specs.FaceLaws.{none-later, none-out, settings-number}
 use Rattle.host.specs.Inner.{Small, AllSmall}
 
 -- ---- what is found is small
@@ -79,6 +80,19 @@ row-count found i = go (ltb i (found .count))
     go true = refl
     go false = refl
 
+-- the numbers of no pulses are zeros, and a refused call has none
+none-zeros : foundNumbers (packed []) ≡ replicate foundCount 0
+unfolding foundNumbers pulseRow packed
+none-zeros = refl
+
+pub found-or-zeros : (s : Settings) (c : ℕ) (w : List ℕ)
+    → ifAccepted (findNumber s c w) (foundNumbers (packed (foundPulses s c w))) (replicate foundCount 0) ≡ foundNumbers (packed (foundPulses s c w))
+found-or-zeros s c w = go (eqb (findNumber s c w) 0) refl
+  where
+    go : (b : Bool) → eqb (findNumber s c w) 0 ≡ b → cond b (foundNumbers (packed (foundPulses s c w))) (replicate foundCount 0) ≡ foundNumbers (packed (foundPulses s c w))
+    go true e = refl
+    go false e = sym (ap (λ (l : List Pulse). foundNumbers (packed l)) (found-none s c w e) ∙ none-zeros)
+
 -- four writings behind each other are one
 pub found-put : (out : List ℕ) (found : Pulses) {o p q r a b c : List ℕ} → foundCount ≤ length out → a ≡ pulseRow found 0 → b ≡ pulseRow found 1 → c ≡ pulseRow found 2
     → o ≡ splice out 0 (found .count ∷ []) → p ≡ splice o 1 a → q ≡ splice p (1 + pulseCount) b → r ≡ splice q (1 + 2 * pulseCount) c → r ≡ splice out 0 (foundNumbers found)
@@ -112,23 +126,24 @@ module _ (m : List ℕ) (c : ℕ) (w out : List ℕ) {s : Settings} {a : FindAns
   first-number : (later : ℕ) → orElse (onSettings m (findNumber (settingsFrom m) c w)) later ≡ orElse (numberOf (a .refusal)) later
   first-number later = ap (λ (k : ℕ). orElse k later) (sym (d .refusal ∙ ap (λ (x : Settings). findNumber x c w) f ∙ settings-number m (λ (x : Settings). findNumber x c w) (find-out c w)))
 
-  pub find-refused : {r : ℕ} → r ≡ numberOf (a .refusal) → eqb (numberOf (a .refusal)) 0 ≡ false → FindFace m c w out r out
-  find-refused g h =
-      let later : ℕ = cond (ltb (length out) foundCount) (numberOf R.Room) 0 in
-      record {
-        number = g ∙ sym (first-number later ∙ ap (λ (b : Bool). cond b later (numberOf (a .refusal))) h);
-        numbers = rw (ap (λ (k : ℕ). eqb k 0) g ∙ h);
-      }
+  pub find-short : {r : ℕ} → r ≡ orElse (numberOf (a .refusal)) badArray → length out < foundCount → FindFace m c w out r out
+  find-short g k = record { number = rw (lt-ltb _ _ k) (g ∙ sym (first-number badArray)); numbers = rw (lt-ltb _ _ k) }
 
-  pub find-short : {r : ℕ} → r ≡ numberOf R.Room → eqb (numberOf (a .refusal)) 0 ≡ true → length out < foundCount → FindFace m c w out r out
-  find-short g h k =
-      rw g (record { number = sym (first-number (cond (ltb (length out) foundCount) (numberOf R.Room) 0) ∙ rw (h, lt-ltb _ _ k)); numbers = refl })
+  -- an accepted call's pulses are those of the numbers' settings, and a refused one has none
+  told : foundNumbers (a .found) ≡ ifAccepted (numberOf (a .refusal)) (foundNumbers (packed (foundPulses (settingsFrom m) c w))) (replicate foundCount 0)
+  told = ap foundNumbers (d .found) ∙ sym (found-or-zeros s c w) ∙ go (isSettings m) f
+    where
+      numbers : Settings → List ℕ
+      numbers x = foundNumbers (packed (foundPulses x c w))
 
-  pub find-face : {out′ : List ℕ} → eqb (numberOf (a .refusal)) 0 ≡ true → foundCount ≤ length out → out′ ≡ splice out 0 (foundNumbers (a .found)) → FindFace m c w out 0 out′
-  find-face h k g =
-      let e : isSettings m ≡ true = settings-accepted m (λ (x : Settings). findNumber x c w) (find-out c w) (ap (λ (x : Settings). findNumber x c w) (sym f) ∙ sym (d .refusal) ∙ eqb-true _ 0 h) in
-      let same : s ≡ settingsFrom m = f ∙ ap (λ (b : Bool). cond b (settingsFrom m) (blank .settings)) e in
+      go : (b : Bool) → s ≡ cond b (settingsFrom m) (blank .settings)
+          → ifAccepted (findNumber s c w) (numbers s) (replicate foundCount 0) ≡ ifAccepted (numberOf (a .refusal)) (numbers (settingsFrom m)) (replicate foundCount 0)
+      go true p = ap₂ (λ (k : ℕ) (x : Settings). ifAccepted k (numbers x) (replicate foundCount 0)) (sym (d .refusal)) p
+      go false p = rw (d .refusal, ap (λ (x : Settings). findNumber x c w) p ∙ find-out c w)
+
+  pub find-face : {r : ℕ} {out′ : List ℕ} → foundCount ≤ length out → out′ ≡ splice out 0 (foundNumbers (a .found)) → r ≡ numberOf (a .refusal) → FindFace m c w out r out′
+  find-face k e g =
       record {
-        number = sym (first-number (cond (ltb (length out) foundCount) (numberOf R.Room) 0) ∙ rw (h, le-ltb _ _ k));
-        numbers = g ∙ ap (λ (x : Pulses). splice out 0 (foundNumbers x)) (d .found ∙ ap (λ (x : Settings). packed (foundPulses x c w)) same);
+        number = rw (le-ltb _ _ k) (g ∙ sym (first-number 0 ∙ none-later (numberOf (a .refusal))));
+        numbers = rw (le-ltb _ _ k, g) (e ∙ ap (splice out 0) told);
       }

@@ -4,7 +4,7 @@ use mathlib.Core.Path.{_≡_, refl, sym, _∙_}
 use mathlib.Core.Bool.{Bool, true, false, cond, _||_, false≢true}
 use mathlib.Core.List.{List, [], _∷_}
 use native.Mathlib.Omega.{arith}
-use borrow.Author.Tests.{eqb-true}
+use borrow.Author.Tests.{eq-eqb, eqb-true}
 use lib.Dec.{eqb}
 use lib.ListN.{length, drop, length-set}
 use Rattle.ground.specs.Tests.{oneOf}
@@ -18,10 +18,10 @@ use Rattle.block.specs.Block.{endItems}
 use Rattle.refusing.specs.TablesLaws.{finish-accepted}
 use Rattle.writer.specs.KeptLaws.{open-block-kept, open-event-kept, post-kept, closing-kept, finish-kept, set-up-kept}
 use Rattle.block.specs.BlockLaws.{end-length, multiple-positive, fillers-lt}
-use Rattle.numbers.specs.Numbers.{headCount, isSettings, isState, settingsFrom, table, marksFrom, stateFrom, numbersOf}
+use Rattle.numbers.specs.Numbers.{headCount, stateCount, isSettings, isState, settingsFrom, table, marksFrom, stateFrom, numbersOf}
 use Rattle.numbers.specs.NumbersLaws.{state-settings-held}
 use Rattle.numbers.specs.BackLaws.{Loads, state-back}
-use Rattle.host.specs.Face.{blockOpened, posted, eventClosed, finishOn, orElse, SetUpFace, OpenBlockFace, OpenEventFace, PostFace, CloseFace, FinishFace}
+use Rattle.host.specs.Face.{blockOpened, posted, eventClosed, finishOn, orElse, badArray, SetUpFace, OpenBlockFace, OpenEventFace, PostFace, CloseFace, FinishFace}
 
 sixteen : (n : List ℕ) → length (stateFrom n .posted) ≡ 16
 unfolding stateFrom marksFrom table
@@ -70,19 +70,24 @@ finish-loads n words r n′ words′ f e =
 pub set-up-loads : (m n n′ : List ℕ) → SetUpFace m n 0 n′ → Loads n′ (idle (settingsFrom m))
 unfolding idle
 set-up-loads m n n′ f =
-    let a = no-one (isSettings m) _ (first-zero _ _ (f .number)) in
-    rw (f .numbers) (state-back _ m (set-up-kept (settingsFrom m) (a .1)) refl (a .0) refl)
+    let z = both-zero _ _ (f .number) in
+    let a = no-one (isSettings m) _ (z .0) in
+    rw (f .numbers, no-other (eqb (length n) stateCount) (z .1)) (state-back _ m (set-up-kept (settingsFrom m) (a .1)) refl (a .0) refl)
   where
     no-one : (b : Bool) (number : ℕ) → cond b number (numberOf R.Setting) ≡ 0 → (b ≡ true) × (number ≡ 0)
     no-one true number e = (refl, e)
     no-one false number e = absurd (omega arith)
 
-    first-zero : (number later : ℕ) → 0 ≡ orElse number later → number ≡ 0
-    first-zero number later e = go (eqb number 0) refl e
+    no-other : (b : Bool) → cond b 0 badArray ≡ 0 → b ≡ true
+    no-other true e = refl
+    no-other false e = absurd (omega arith)
+
+    both-zero : (number later : ℕ) → 0 ≡ orElse number later → (number ≡ 0) × (later ≡ 0)
+    both-zero number later e = go (eqb number 0) refl e
       where
-        go : (b : Bool) → eqb number 0 ≡ b → 0 ≡ cond b later number → number ≡ 0
-        go true h f = eqb-true number 0 h
-        go false h f = sym f
+        go : (b : Bool) → eqb number 0 ≡ b → 0 ≡ cond b later number → (number ≡ 0) × (later ≡ 0)
+        go true h f = (eqb-true number 0 h, sym f)
+        go false h f = absurd (false≢true (sym h ∙ eq-eqb number 0 (sym f)))
 
 -- the length that a finish answers is below 2^32, so that no refusal can be taken for one
 pub finish-below : (n : List ℕ) (room : ℕ) → finishOn n room ≡ 0

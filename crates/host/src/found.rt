@@ -5,10 +5,10 @@ ghost use lib.ListN.{length};
 ghost use Rattle.ground.specs.Splice.{splice};
 ghost use Rattle.host.specs.Face.{pulseNumbers, pulseRow, foundCount, foundNumbers, FindFace};
 ghost use Rattle.host.specs.Inner.{Small, AllSmall};
+use crate::or_bad_array;
 use finder::Pulse;
 use finder::Pulses;
 use numbers::load::settings_or_none;
-use refusals::Refusal;
 
 // How many numbers a pulse has, where those of each place stand, behind the count, and how many are written.
 const PULSE: usize = 9;
@@ -93,13 +93,10 @@ pub extern "C" fn fadc250_find(
     let loaded = settings_or_none(settings);
     let answer = find::find(loaded, channel as usize, window);
     let refusal = answer.refusal;
-    if !refusals::accepted(refusal) {
-        return refusals::number(refusal);
-    }
     if out.len() < FOUND {
-        return refusals::number(Refusal::Room);
+        return or_bad_array(refusal);
     }
     let found = answer.found;
     put_found(out, found);
-    0
+    refusals::number(refusal)
 }
