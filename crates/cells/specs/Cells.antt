@@ -37,8 +37,8 @@ fieldNumbers (R.Block r) = r .slot ∷ r .number ∷ r .events ∷ 0 ∷ 0 ∷ [
 fieldNumbers (R.Parameters r) = r .pl ∷ r .nsb ∷ r .nsa ∷ 0 ∷ 0 ∷ []
 fieldNumbers (R.Event r) = r .slot ∷ r .number ∷ 0 ∷ 0 ∷ 0 ∷ []
 -- a time of one word has its low 27 bits, one of two words all 48, the second holding bits 47-24
-fieldNumbers (R.Time27 r) = r .middle * 2 ^ 24 + r .low ∷ 0 ∷ 0 ∷ 0 ∷ 0 ∷ []
-fieldNumbers (R.Time48 r high) = high .high * 2 ^ 24 + r .low ∷ 0 ∷ 0 ∷ 0 ∷ 0 ∷ []
+fieldNumbers (R.Time27 r) = (r .middle * 2 ^ 24 + r .low) ∷ 0 ∷ 0 ∷ 0 ∷ 0 ∷ []
+fieldNumbers (R.Time48 r high) = (high .high * 2 ^ 24 + r .low) ∷ 0 ∷ 0 ∷ 0 ∷ 0 ∷ []
 fieldNumbers (R.TimeHigh r) = r .high ∷ 0 ∷ 0 ∷ 0 ∷ 0 ∷ []
 fieldNumbers (R.Window r p) = r .channel ∷ 0 ∷ r .width ∷ p .place ∷ p .count ∷ []
 fieldNumbers (R.Raw r p) = r .channel ∷ r .pulse ∷ r .tc ∷ p .place ∷ p .count ∷ []

@@ -75,27 +75,13 @@ pub fn end_numbers() -> [u64; RECORD]
 fn block_numbers(r: BlockHeader) -> [u64; RECORD]
     ensures { λ n. ⌜ n ≡ recordNumbers (Record.Block r) ⌝ }
 {
-    [
-        BLOCK,
-        r.slot as u64,
-        r.number as u64,
-        r.events as u64,
-        0,
-        0,
-    ]
+    [BLOCK, r.slot as u64, r.number as u64, r.events as u64, 0, 0]
 }
 
 fn parameters_numbers(r: Parameters) -> [u64; RECORD]
     ensures { λ n. ⌜ n ≡ recordNumbers (Record.Parameters r) ⌝ }
 {
-    [
-        PARAMETERS,
-        r.pl as u64,
-        r.nsb as u64,
-        r.nsa as u64,
-        0,
-        0,
-    ]
+    [PARAMETERS, r.pl as u64, r.nsb as u64, r.nsa as u64, 0, 0]
 }
 
 fn event_numbers(r: EventHeader) -> [u64; RECORD]
@@ -235,10 +221,10 @@ fn empty_numbers(r: ModuleEmpty) -> [u64; RECORD]
 }
 
 // The numbers of a record.
-pub fn record_numbers(record: Record) -> [u64; RECORD]
-    ensures { λ n. ⌜ n ≡ recordNumbers record ⌝ }
+pub fn record_numbers(x: Record) -> [u64; RECORD]
+    ensures { λ n. ⌜ n ≡ recordNumbers x ⌝ }
 {
-    match record {
+    match x {
         Record::Block(r) => block_numbers(r),
         Record::Parameters(r) => parameters_numbers(r),
         Record::Event(r) => event_numbers(r),

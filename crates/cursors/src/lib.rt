@@ -138,14 +138,7 @@ fn cursor_of(scan: Scan) -> [u32; SCAN]
     let number = stage_number(stage);
     let first = stage_first(stage);
     let second = stage_second(stage);
-    [
-        scan.place,
-        scan.slot,
-        scan.left,
-        number,
-        first,
-        second,
-    ]
+    [scan.place, scan.slot, scan.left, number, first, second]
 }
 
 // Copies `new` over the front of the numbers.
