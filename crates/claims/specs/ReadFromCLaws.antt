@@ -191,8 +191,99 @@ module _ (words : List ℕ) (s : Scan) (xs : List Item) (b : Behind words s xs) 
 abbrev Seen : Next → Bool → Scan → List ℕ → ℕ → List ℕ → List ℕ → Type 0
 Seen x room s out r n′ out′ = (r ≡ toldBy x room) × ((n′ ≡ cursorOf (scanAfter x room s)) × (out′ ≡ cond room (splice out 0 (recordOf x)) out))
 
-seen : {words n : List ℕ} {s : Scan} {out n′ out′ : List ℕ} {r : ℕ} → n ≡ cursorOf s → NextFace n words out r n′ out′ → Seen (nextAt words s) (roomFor out) s out r n′ out′
-seen {words} {n} {s} {out} {n′} {out′} {r} e f =
+seen : (words : List ℕ) (s : Scan) (out : List ℕ) {n n′ out′ : List ℕ} {r : ℕ} → n ≡ cursorOf s → NextFace n words out r n′ out′ → Seen (nextAt words s) (roomFor out) s out r n′ out′
+seen words s out {n} {n′} {out′} {r} e f =
     let c = next-call words s out (subst (λ (m : List ℕ). NextFace m words out r n′ out′) e f) in
     let same = c .said .answer in
     (rw same at (c .number), (rw same at (c .numbers), rw same at (c .cells)))
+
+module _ (words : List ℕ) (s : Scan) (xs : List Item) (b : Behind words s xs) (cells : List (List ℕ)) (recorded : Recorded cells xs) (out : List ℕ) (r : ℕ) (n′ out′ : List ℕ) where
+  -- a call that gave a record
+  after-record : (x : Next) (room : Bool) → nextAt words s ≡ x → Seen x room s out r n′ out′ → Gave r out′ → ReadSoFar words n′ (cells ++ (take recordCount out′ ∷ []))
+  after-record (N.Took x u) true e (number, (numbers, filled)) g =
+      let t = behind words s xs b e in
+      record {
+        scan = u;
+        numbers = numbers;
+        items = xs ++ taken words s xs b e .items;
+        records = subst (λ (c : List ℕ). Recorded (cells ++ (c ∷ [])) (xs ++ taken words s xs b e .items)) (sym (filled-back x out filled)) (another recorded x (taken words s xs b e .items) (made words s xs b e));
+        place = t .place;
+        run = t .run;
+      }
+  after-record (N.Took x u) false e (number, rest) g = absurd (omega (arith, number, g .0))
+  after-record (N.End m) true e (number, (numbers, filled)) g = absurd (g .1 (filled-kind endKind _ out filled))
+  after-record (N.End m) false e (number, rest) g = absurd (omega (arith, number, g .0))
+  after-record (N.Refused m p) room e (number, rest) g = absurd (omega (arith, number, g .0, refused-some words s xs b e))
+
+  -- a call that gave none
+  after-none : (x : Next) (room : Bool) → nextAt words s ≡ x → Seen x room s out r n′ out′ → (Gave r out′ → ⊥) → n′ ≡ cursorOf s
+  after-none (N.Took x u) true e (number, (numbers, filled)) h =
+      let t = behind words s xs b e in
+      let low : r < 2 ^ 32 = omega (arith, number, place-below words u _ t) in
+      absurd (h (low, λ k. omega (arith, kind-below x, k, filled-kind (kindOf x) _ out filled)))
+  after-none (N.Took x u) false e (number, (numbers, filled)) h = numbers
+  after-none (N.End m) room e (number, (numbers, filled)) h = numbers
+  after-none (N.Refused m p) room e (number, (numbers, filled)) h = numbers
+
+  -- the block's end
+  after-end : (x : Next) (room : Bool) → nextAt words s ≡ x → Seen x room s out r n′ out′ → r < 2 ^ 32 → getD out′ 0 0 ≡ endKind → ReadWhole words cells r
+  after-end (N.Took x u) true e (number, (numbers, filled)) low k = absurd (omega (arith, kind-below x, k, filled-kind (kindOf x) _ out filled))
+  after-end (N.Took x u) false e (number, rest) low k = absurd (omega (arith, number, low))
+  after-end (N.End m) true e (number, rest) low k =
+      record { items = xs; records = recorded; read = ended-run words s xs b e ∙ ap (λ (i : ℕ). record { items = xs; out = Whole i }) (sym number) }
+  after-end (N.End m) false e (number, rest) low k = absurd (omega (arith, number, low))
+  after-end (N.Refused m p) room e (number, rest) low k = absurd (omega (arith, number, low, refused-some words s xs b e))
+
+  -- a refusal
+  after-refusal : (x : Next) (room : Bool) → nextAt words s ≡ x → Seen x room s out r n′ out′ → 2 ^ 32 ≤ r → r < badAnswer → numberOfOut ((readFrom startOf words) .out) ≡ r
+  after-refusal (N.Took x u) true e (number, rest) high low = absurd (omega (arith, number, high, place-below words u _ (behind words s xs b e)))
+  after-refusal (N.Took x u) false e (number, rest) high low = absurd (omega (arith, number, low))
+  after-refusal (N.End m) true e (number, rest) high low =
+      let m-is : placeOf ((readFrom startOf words) .out) ≡ m = ap (λ (x : Reading). placeOf (x .out)) (ended-run words s xs b e) in
+      absurd (omega (arith, number, high, place-small words, m-is))
+  after-refusal (N.End m) false e (number, rest) high low = absurd (omega (arith, number, low))
+  after-refusal (N.Refused m p) room e (number, rest) high low = ap numberOfOut (refused-out words s xs b e) ∙ sym number
+
+-- ---- the calls from zeros on
+
+so-far : {words n : List ℕ} {cells : List (List ℕ)} (a : ReadSoFar words n cells) → Behind words (a .scan) (a .items)
+so-far a = record { place = a .place; run = a .run }
+
+-- after any calls the items of the records given stand first in the reading, and it goes on from the scan that was left: nothing is left out between
+pub c-reads : {words n : List ℕ} {cells : List (List ℕ)} → CReads words n cells → ReadSoFar words n cells
+c-reads at-start = record { scan = startOf; numbers = sym start-zeros; items = []; records = none; place = refl; run = refl }
+c-reads {words} (gave c out r n′ out′ f g) =
+    let a = c-reads c in
+    after-record words (a .scan) (a .items) (so-far a) _ (a .records) out r n′ out′ (nextAt words (a .scan)) (roomFor out) refl (seen words (a .scan) out (a .numbers) f) g
+c-reads {words} (gave-none c out r n′ out′ f h) =
+    let a = c-reads c in
+    record {
+      scan = a .scan;
+      numbers = after-none words (a .scan) (a .items) (so-far a) _ (a .records) out r n′ out′ (nextAt words (a .scan)) (roomFor out) refl (seen words (a .scan) out (a .numbers) f) h;
+      items = a .items;
+      records = a .records;
+      place = a .place;
+      run = a .run;
+    }
+
+-- where a call then says that the block has ended, the records given are all of its records, and its answer is the block's length
+pub c-reads-whole : {words n : List ℕ} {cells : List (List ℕ)} → CReads words n cells → (out : List ℕ) {r : ℕ} {n′ out′ : List ℕ} → NextFace n words out r n′ out′
+    → r < 2 ^ 32 → getD out′ 0 0 ≡ endKind → ReadWhole words cells r
+c-reads-whole {words} c out {r} {n′} {out′} f low k =
+    let a = c-reads c in
+    after-end words (a .scan) (a .items) (so-far a) _ (a .records) out r n′ out′ (nextAt words (a .scan)) (roomFor out) refl (seen words (a .scan) out (a .numbers) f) low k
+
+-- which is what the check answers of the same block's bytes
+pub c-end-checked : {words n : List ℕ} {cells : List (List ℕ)} → CReads words n cells → (out : List ℕ) {r : ℕ} {n′ out′ : List ℕ} → NextFace n words out r n′ out′
+    → r < 2 ^ 32 → getD out′ 0 0 ≡ endKind → AllWords words → checkNumber (bytesOfWords words) ≡ r
+c-end-checked {words} c out f low k w =
+    let a = c-reads-whole c out f low k in
+    check-bytes words w ∙ ap numberOfOut (sym (check-reads startOf words) ∙ ap (λ (x : Reading). x .out) (a .read))
+
+-- where a call is refused, but not for its arrays, its answer is the refusal and the place that the check answers of the same block's bytes
+pub c-refusal-checked : {words n : List ℕ} {cells : List (List ℕ)} → CReads words n cells → (out : List ℕ) {r : ℕ} {n′ out′ : List ℕ} → NextFace n words out r n′ out′
+    → 2 ^ 32 ≤ r → r < badAnswer → AllWords words → checkNumber (bytesOfWords words) ≡ r
+c-refusal-checked {words} c out {r} {n′} {out′} f high low w =
+    let a = c-reads c in
+    check-bytes words w ∙ ap numberOfOut (sym (check-reads startOf words))
+    ∙ after-refusal words (a .scan) (a .items) (so-far a) _ (a .records) out r n′ out′ (nextAt words (a .scan)) (roomFor out) refl (seen words (a .scan) out (a .numbers) f) high low
