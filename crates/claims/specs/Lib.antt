@@ -22,6 +22,8 @@ pub mod FollowedLaws
 pub mod FromC
 pub mod FromCLaws
 pub mod CRunLaws
+pub mod ReadFromC
+pub mod ReadFromCLaws
 pub mod Unique
 pub mod Ties
 pub mod FieldEnds

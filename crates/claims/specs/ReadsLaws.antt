@@ -139,11 +139,11 @@ part-read words place items rest head p small h m stop =
 
 -- ---- a whole run, record by record
 
-before-items : (xs : List Item) (r : Reading) → (before xs r) .items ≡ xs ++ r .items
+pub before-items : (xs : List Item) (r : Reading) → (before xs r) .items ≡ xs ++ r .items
 before-items [] r = refl
 before-items (x ∷ xs) r = ap (λ (l : List Item). x ∷ l) (before-items xs r)
 
-before-out : (xs : List Item) (r : Reading) → (before xs r) .out ≡ r .out
+pub before-out : (xs : List Item) (r : Reading) → (before xs r) .out ≡ r .out
 before-out [] r = refl
 before-out (x ∷ xs) r = before-out xs r
 

@@ -61,6 +61,10 @@ use Rattle.lines.proofs as lines
 use Rattle.entries.proofs as entries
 use Rattle.listing.proofs as listing
 use Rattle.listing.specs.RoomLaws.{one-listing}
+use Rattle.cursors.proofs as cursors
+use Rattle.cells.proofs as cells
+use Rattle.reading.proofs as reading
+use Rattle.reading.specs.ReadingLaws.{next-face-unique}
 
 -- a statement over a function's signature, `ended`: it speaks of the arguments, the answer, and the arguments as the call leaves them
 abbrev pub Statement : Ended → Type 1
@@ -679,3 +683,33 @@ list-item-unique κs a r s u v p q = by-page (u .1) p q
 -- listing
 pub list-unique : Unique listing.list.ended listing.list.Reads.Learnt
 list-unique κs a r s u v p q = let e = one-listing p q in (e .0, λ i. (tt, (e .1 i, tt)))
+
+-- ---- reading from C
+
+-- cursors
+pub is-scan-unique : Unique cursors.is_scan.ended cursors.is_scan.Reads.Learnt
+is-scan-unique κs a r s u v p q = by-equation p q
+
+pub scan-from-unique : Unique cursors.scan_from.ended cursors.scan_from.Reads.Learnt
+scan-from-unique κs a r s u v p q = by-equation p q
+
+pub put-scan-unique : Unique cursors.put_scan.ended cursors.put_scan.Reads.Learnt
+put-scan-unique κs a r s u v p q = (refl, λ i. (one-result p q i, u .1))
+
+-- cells
+pub no-numbers-unique : Unique cells.no_numbers.ended cells.no_numbers.Reads.Learnt
+no-numbers-unique κs a r s u v p q = by-equation p q
+
+pub end-numbers-unique : Unique cells.end_numbers.ended cells.end_numbers.Reads.Learnt
+end-numbers-unique κs a r s u v p q = by-equation p q
+
+pub record-numbers-unique : Unique cells.record_numbers.ended cells.record_numbers.Reads.Learnt
+record-numbers-unique κs a r s u v p q = by-equation p q
+
+-- reading
+pub reading-next-unique : Unique reading.next.ended reading.next.Reads.Learnt
+reading-next-unique κs a r s u v p q = let e = next-face-unique _ _ _ _ _ _ _ _ _ p q in (e .0, λ i. (e .1 .0 i, (tt, (e .1 .1 i, tt))))
+
+-- host
+pub fadc250-next-unique : Unique host.fadc250_next.ended host.fadc250_next.Reads.Learnt
+fadc250-next-unique κs a r s u v p q = let e = next-face-unique _ _ _ _ _ _ _ _ _ p q in (e .0, λ i. (e .1 .0 i, (tt, (e .1 .1 i, tt))))

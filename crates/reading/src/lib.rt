@@ -1,0 +1,104 @@
+// Reads a block from C, record by record: the scan's numbers are loaded, and an accepted call stores them and fills in the record's.
+ghost use mathlib.Core.Path.{_≡_};
+ghost use Prim.Native.Nat.{_≤_};
+ghost use lib.ListN.{length};
+ghost use Rattle.ground.specs.Splice.{splice};
+ghost use Rattle.cells.specs.Cells.{noNumbers};
+ghost use Rattle.reading.specs.Reading.{badAnswer, roomFor, toldBy, recordOf, filled, NextFace};
+ghost use Rattle.reading.specs.Inner.{Told};
+use records::answer::Next;
+use records::answer::Record;
+use scan::Scan;
+
+// An array of C is not as long as it must be, or holds what it cannot hold. No paper's number.
+pub const BAD_ARRAY: u64 = 64;
+
+// The same, as an answer.
+const BAD_ANSWER: u64 = BAD_ARRAY * 4294967296;
+
+// Copies `new` over the front of the numbers.
+fn put_front(out: &mut [u64], new: &[u64])
+    requires { ⌜ length (now new) ≤ length (now out) ⌝ }
+    ensures { λ _. ⌜ now (out .exit) ≡ splice (now (out .entry)) 0 (now (new .entry)) ⌝ }
+{
+    let mut i = 0;
+    while i < new.len() {
+        out[i] = new[i];
+        i += 1;
+    }
+}
+
+// Fills in a record's numbers; fewer than they are stay.
+fn fill(out: &mut [u64], new: [u64; cells::RECORD])
+    ensures { λ _. ⌜ now (out .exit) ≡ filled (now (out .entry)) new ⌝ }
+{
+    if out.len() < cells::RECORD {
+        return;
+    }
+    put_front(out, &new);
+}
+
+// No scan: no record is left of an older call.
+fn no_scan(out: &mut [u64]) -> u64
+    ensures { λ r. ⌜ (r ≡ badAnswer) × (now (out .exit) ≡ filled (now (out .entry)) noNumbers) ⌝ }
+{
+    let none = cells::no_numbers();
+    fill(out, none);
+    BAD_ANSWER
+}
+
+// A record: with room for it, the scan moves behind it.
+fn took(numbers: &mut [u32], out: &mut [u64], x: Record, after: Scan) -> u64
+    ensures { λ r. ⌜ Told (now (numbers .entry)) (now (out .entry)) (Next.Took x after) r (now (numbers .exit)) (now (out .exit)) ⌝ }
+{
+    if out.len() < cells::RECORD {
+        return BAD_ANSWER;
+    }
+    let new = cells::record_numbers(x);
+    put_front(out, &new);
+    cursors::put_scan(numbers, after);
+    after.place as u64
+}
+
+// The block's end: the scan stays before it.
+fn ended(out: &mut [u64], words: u32) -> u64
+    ensures { λ r. ⌜ (r ≡ toldBy (Next.End words) (roomFor (now (out .entry)))) × (now (out .exit) ≡ filled (now (out .entry)) (recordOf (Next.End words))) ⌝ }
+{
+    if out.len() < cells::RECORD {
+        return BAD_ANSWER;
+    }
+    let end = cells::end_numbers();
+    put_front(out, &end);
+    words as u64
+}
+
+// A refusal and its place in one number, as the check of bytes answers them.
+fn refused(out: &mut [u64], number: u32, place: u32) -> u64
+    ensures { λ r. ⌜ (r ≡ toldBy (Next.Refused number place) (roomFor (now (out .entry)))) × (now (out .exit) ≡ filled (now (out .entry)) (recordOf (Next.Refused number place))) ⌝ }
+{
+    let none = cells::no_numbers();
+    fill(out, none);
+    (number as u64) * 4294967296 + (place as u64)
+}
+
+fn tell(numbers: &mut [u32], out: &mut [u64], next: Next) -> u64
+    ensures { λ r. ⌜ Told (now (numbers .entry)) (now (out .entry)) next r (now (numbers .exit)) (now (out .exit)) ⌝ }
+{
+    match next {
+        Next::Took(x, after) => took(numbers, out, x, after),
+        Next::End(words) => ended(out, words),
+        Next::Refused(number, place) => refused(out, number, place),
+    }
+}
+
+// The next record of the block whose first word is the first of `words`.
+pub fn next(numbers: &mut [u32], words: &[u32], out: &mut [u64]) -> u64
+    ensures { λ r. ⌜ NextFace (now (numbers .entry)) (now (words .entry)) (now (out .entry)) r (now (numbers .exit)) (now (out .exit)) ⌝ }
+{
+    if !cursors::is_scan(numbers) {
+        return no_scan(out);
+    }
+    let scan = cursors::scan_from(numbers);
+    let next = records::next(words, scan);
+    tell(numbers, out, next)
+}
