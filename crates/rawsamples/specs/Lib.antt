@@ -1,0 +1,4 @@
+pub mod RawSamples
+pub mod RawSamplesLaws
+pub mod Says
+pub mod BackLaws
