@@ -4,45 +4,25 @@ use mathlib.Core.Path.{_≡_, refl, sym, ap, _∙_}
 use mathlib.Core.Bool.{Bool, true, false, cond}
 use mathlib.Core.List.{List, [], _∷_, _++_}
 use native.Mathlib.Omega.{arith}
-use borrow.Author.Tests.{le-leb, lt-leb}
-use lib.Dec.{leb}
 use lib.ListN.{length, drop, take, length-append}
 use lib.Seq.{length-take-le}
 use Rattle.ground.specs.ResultLaws.{one-result}
 use Rattle.text.specs.Page.{Page, farthest, put}
-use Rattle.text.specs.PageLaws.{put-length, put-all, place-all}
+use Rattle.text.specs.PageLaws.{none-put, none-count, short, fitting}
 use Rattle.listing.specs.declared.Listed.{Listed}
 use Rattle.listing.specs.declared.Listed.the-variants as L
 use Rattle.listing.specs.Says.{listedNumber, listedValue, textHasRoom, counted, TextSays, ListSays, LongSays}
 
-nil-of : (l : List ℕ) → length l ≡ 0 → l ≡ []
-nil-of [] e = refl
-nil-of (x ∷ l) e = absurd (omega arith)
-
 module _ (all text none : List ℕ) (n : ℕ) (e : _≡_ {A = Page} (none, n) (put ([], 0) all)) where
-  none-put : none ≡ []
-  none-put = nil-of none (ap (λ (p : Page). length (p .0)) e ∙ put-length ([], 0) all)
-
-  count : n ≡ counted all
-  count = ap (λ (p : Page). p .1) e ∙ place-all [] all
-
   pub no-room : length (none ++ text) < n → LongSays all text (L.NoRoom n) (none ++ text)
   no-room h =
-      let k : length text < n = rw none-put at h in
-      let f : leb (length all) (length text) ≡ _ = lt-leb (length all) (length text) (omega (arith, count)) in
-      record { number = rw f; value = count; bytes = rw (f, none-put) }
+      let f : textHasRoom all text ≡ false = short all text none n e h in
+      record { number = rw f; value = none-count all text none n e; bytes = rw (f, none-put all text none n e) }
 
   pub room : (r : ℕ) (text′ : List ℕ) → n ≤ length (none ++ text) → length text < farthest → _≡_ {A = Page} (text′, r) (put (none ++ text, 0) all) → LongSays all text (L.Text r) text′
   room r text′ h m g =
-      let k : n ≤ length text = rw none-put at h in
-      let i : length all ≤ length text = omega (arith, count) in
-      let f : leb (length all) (length text) ≡ _ = le-leb (length all) (length text) i in
-      let g′ : _≡_ {A = Page} (text′, r) (put (text, 0) all) = rw none-put at g in
-      record {
-        number = rw f;
-        value = ap (λ (p : Page). p .1) g′ ∙ place-all text all;
-        bytes = rw f (ap (λ (p : Page). p .0) g′ ∙ put-all text all i (omega arith));
-      }
+      let p = fitting all text none n e r text′ h m g in
+      record { number = rw (p .1); value = p .0; bytes = rw (p .1) (p .2) }
 
 -- a text whose length no buffer's reaches is counted whole
 pub all-counted : {all text : List ℕ} {r : Listed} {text′ : List ℕ} → length all ≤ farthest → LongSays all text r text′ → ListSays all text r text′

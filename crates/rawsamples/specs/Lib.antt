@@ -1,4 +1,4 @@
+-- The samples of a raw item, and their laws.
 pub mod RawSamples
-pub mod RawSamplesLaws
 pub mod Says
-pub mod BackLaws
+pub mod RawSamplesLaws
