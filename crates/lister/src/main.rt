@@ -3,7 +3,6 @@ use libc::STDERR_FILENO;
 use libc::STDIN_FILENO;
 use libc::STDOUT_FILENO;
 use listing::Listed;
-
 ghost use Rattle.lister.specs.Within.{Within};
 
 // The most bytes of an input.
@@ -59,7 +58,10 @@ fn main() {
         Input::Bytes(count) => {
             print(&input[..count]);
             if LONGEST < count {
-                io::write_all(STDERR_FILENO, b"lister: more than 65536 bytes: `./list --long FILE` lists longer files\n");
+                io::write_all(
+                    STDERR_FILENO,
+                    b"lister: more than 65536 bytes: `./list --long FILE` lists longer files\n",
+                );
             }
         }
         Input::Failed => os::fail(b"lister: the input could not be read"),

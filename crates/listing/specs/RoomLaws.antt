@@ -11,7 +11,7 @@ use Rattle.text.specs.Page.{Page, farthest, put}
 use Rattle.text.specs.PageLaws.{none-put, none-count, short, fitting}
 use Rattle.listing.specs.declared.Listed.{Listed}
 use Rattle.listing.specs.declared.Listed.the-variants as L
-use Rattle.listing.specs.Says.{listedNumber, listedValue, textHasRoom, counted, TextSays, ListSays, LongSays}
+use Rattle.listing.specs.Says.{listedNumber, listedValue, textHasRoom, counted, TextSays, ListSays, LongSays, LengthSays}
 
 module _ (all text none : List ℕ) (n : ℕ) (e : _≡_ {A = Page} (none, n) (put ([], 0) all)) where
   pub no-room : length (none ++ text) < n → LongSays all text (L.NoRoom n) (none ++ text)
@@ -50,3 +50,15 @@ module _ {all text : List ℕ} {r : Listed} {k : ℕ} {text′ : List ℕ} (e : 
 
   pub within-take : k ≡ length (take k text′)
   within-take = sym (length-take-le k text′ within)
+
+-- the length is told, whether the text has room or not
+module _ {all text : List ℕ} {r : Listed} {text′ : List ℕ} (s : LongSays all text r text′) where
+  pub length-told : {n : ℕ} → r ≡ L.Text n → LengthSays all text n text′
+  length-told e = record { size = sym (ap listedValue e) ∙ s .value; bytes = s .bytes }
+
+  pub length-needed : {n : ℕ} → r ≡ L.NoRoom n → LengthSays all text n text′
+  length-needed e = record { size = sym (ap listedValue e) ∙ s .value; bytes = s .bytes }
+
+-- two lengths that the statement allows are equal, and so is what they leave
+pub one-length : {all text : List ℕ} {r r′ : ℕ} {b b′ : List ℕ} → LengthSays all text r b → LengthSays all text r′ b′ → (r ≡ r′) × (b ≡ b′)
+one-length p q = (one-result (p .size) (q .size), one-result (p .bytes) (q .bytes))

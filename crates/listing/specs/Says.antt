@@ -53,3 +53,8 @@ ListSays all text r text′ = TextSays all (length all) text r text′
 -- of any number of bytes
 abbrev pub LongSays : List ℕ → List ℕ → Listed → List ℕ → Type 0
 LongSays all text r text′ = TextSays all (counted all) text r text′
+
+-- the same of an answer that is the length alone
+pub record LengthSays (all text : List ℕ) (r : ℕ) (text′ : List ℕ) : Type 0 where
+  pub size : r ≡ counted all
+  pub bytes : text′ ≡ cond (textHasRoom all text) (all ++ drop (length all) text) text

@@ -119,7 +119,11 @@ fn list_unless(wrong: bool, bytes: &[u8], text: &mut [u8]) -> Listed
 pub fn list(bytes: &[u8], text: &mut [u8]) -> Listed
     ensures { λ r. ⌜ ListSays (listingOf (now (bytes .entry))) (now (text .entry)) r (now (text .exit)) ⌝ }
 {
-    list_unless((bytes.len() % 4 != 0) | (LONGEST < bytes.len()), bytes, text)
+    list_unless(
+        (bytes.len() % 4 != 0) | (LONGEST < bytes.len()),
+        bytes,
+        text,
+    )
 }
 
 // The text of any number of bytes.

@@ -9,6 +9,7 @@ use borrow.Author.Tests.{eq-eqb, ne-eqb}
 use lib.Dec.{eqb, leb}
 use lib.ListN.{length, drop, take, getD, drop-of-length-le, length-append, length-take}
 use lib.Seq.{drop-cons}
+use Rattle.ground.specs.ResultLaws.{one-result}
 use Rattle.fields.specs.Word.{read}
 use Rattle.fields.specs.WordLaws.{field-lt}
 use Rattle.raw.specs.declared.pair.SamplePair.{SamplePair}
@@ -99,3 +100,7 @@ module _ (words : List ℕ) (pairs : Pairs) (out : List ℕ) {part none : List �
   room r out′ k m g =
       let p = fitting (samplesOf part) out none n e r out′ k m g in
       rw (← h) (record { count = p .0 ∙ all-counted; array = rw (p .1) (p .2) })
+
+-- two answers that the statement allows are equal, and so is what they leave
+pub one-unpacking : {all out : List ℕ} {r r′ : ℕ} {b b′ : List ℕ} → SamplesSay all out r b → SamplesSay all out r′ b′ → (r ≡ r′) × (b ≡ b′)
+one-unpacking p q = (one-result (p .count) (q .count), one-result (p .array) (q .array))
