@@ -6,7 +6,7 @@ use mathlib.Core.List.{List, [], _∷_, _++_}
 use lib.Dec.{eqb, ltb}
 use lib.ListN.{length, getD, set, replicate}
 use Rattle.ground.specs.Splice.{splice}
-use Rattle.refusals.specs.Refusal.{numberOf}
+use Rattle.refusals.specs.Refusal.{numberOf, badArray}
 use Rattle.refusals.specs.declared.Refusal.the-variants as R
 use Rattle.finder.specs.declared.Pulse.{Pulse}
 use Rattle.finder.specs.declared.Pulses.{Pulses}
@@ -33,10 +33,6 @@ onSettings n number = cond (isSettings n) number (numberOf R.Setting)
 -- a refusal, or where there is none a later one
 abbrev pub orElse : ℕ → ℕ → ℕ
 orElse number later = cond (eqb number 0) later number
-
--- the number for an array that is not as long as the header says; the paper has none
-abbrev pub badArray : ℕ
-badArray = 64
 
 -- the states that opening a block, posting and closing give
 abbrev pub blockOpened : State → ℕ → ℕ → State

@@ -11,7 +11,7 @@ use Rattle.ground.specs.Splice.{splice}
 use Rattle.ground.specs.Tests.{firstOf}
 use Rattle.settings.specs.declared.Settings.{Settings}
 use Rattle.settings.specs.Ranges.{ranges, settingsOk}
-use Rattle.refusals.specs.Refusal.{numberOf}
+use Rattle.refusals.specs.Refusal.{numberOf, badArray}
 use Rattle.refusals.specs.declared.Refusal.the-variants as R
 use Rattle.items.specs.Items.{wordsOf}
 use Rattle.state.specs.declared.State.{State}
@@ -27,7 +27,7 @@ use Rattle.numbers.specs.Numbers.{headCount, stateCount, isSettings, isState, s
 use Rattle.numbers.specs.NumbersLaws.{settings-count, state-count, state-settings-held}
 use Rattle.numbers.specs.StoreLaws.{head-over}
 use Rattle.numbers.specs.BackLaws.{settings-back}
-use Rattle.host.specs.Face.{onState, onSettings, orElse, badArray, blockOpened, posted, eventClosed, finishOn, inHigh, SetUpFace, OpenBlockFace, OpenEventFace, PostFace, CloseFace, FinishFace}
+use Rattle.host.specs.Face.{onState, onSettings, orElse, blockOpened, posted, eventClosed, finishOn, inHigh, SetUpFace, OpenBlockFace, OpenEventFace, PostFace, CloseFace, FinishFace}
 use Rattle.host.specs.Inner.{Kept}
 
 -- the head of a state with these settings, over the numbers

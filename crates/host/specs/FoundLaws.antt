@@ -13,7 +13,7 @@ use Rattle.ground.specs.Splice.{splice}
 use Rattle.ground.specs.Tests.{firstOf}
 use Rattle.ground.specs.SpliceLaws.{splice-splice, length-splice}
 use Rattle.settings.specs.declared.Settings.{Settings}
-use Rattle.refusals.specs.Refusal.{numberOf}
+use Rattle.refusals.specs.Refusal.{numberOf, badArray}
 use Rattle.refusals.specs.declared.Refusal.the-variants as R
 use Rattle.find.specs.declared.FindAnswer.{FindAnswer}
 use Rattle.finder.specs.declared.Pulse.{Pulse}
@@ -25,7 +25,7 @@ use Rattle.find.specs.CallLaws.{accepted, found-none, found-all}
 use Rattle.writer.specs.Calls.{ifAccepted}
 use Rattle.state.specs.State.{blank}
 use Rattle.numbers.specs.Numbers.{isSettings, settingsFrom, settingsOrNone}
-use Rattle.host.specs.Face.{onSettings, orElse, badArray, pulseNumbers, pulseCount, pulseRow, foundCount, foundNumbers, FindFace}
+use Rattle.host.specs.Face.{onSettings, orElse, pulseNumbers, pulseCount, pulseRow, foundCount, foundNumbers, FindFace}
 use Rattle.host.specs.FaceLaws.{none-later, none-out, settings-number}
 use Rattle.host.specs.Inner.{Small, AllSmall}
 

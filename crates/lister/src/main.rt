@@ -1,22 +1,69 @@
-// Lists standard input, the bytes of blocks, on standard output: a line a record.
+// Lists standard input, the bytes of blocks, on standard output: a line a record. What fails is told on standard error.
+use libc::STDERR_FILENO;
 use libc::STDIN_FILENO;
 use libc::STDOUT_FILENO;
 use listing::Listed;
+ghost use Rattle.lister.specs.Within.{Within};
+
+// The most bytes of an input.
+const LONGEST: usize = 65536;
+
+// How many bytes were read; or that reading failed.
+enum Input {
+    Bytes(usize),
+    Failed,
+}
 
 // Called nowhere that can be reached.
 fn never()
     requires { ⌜ ⊥ ⌝ }
 {}
 
-// One byte more than an input may have is read, and no more. The buffer has room for the longest text.
-fn main() {
-    let mut input = [0u8; 65537];
-    let count = io::read_full(STDIN_FILENO, &mut input);
+// Reads until the buffer is full or the input ends.
+fn read_all(fd: i32, input: &mut [u8]) -> Input
+    ensures { λ r. ⌜ Within r (now (input .exit)) ⌝ }
+{
+    let mut done: usize = 0;
+    while done < input.len() {
+        let got = libc::read(fd, &mut input[done..]);
+        if got < 0 {
+            return Input::Failed;
+        }
+        let more = io::count(got, &input[done..]);
+        if more == 0 {
+            return Input::Bytes(done);
+        }
+        done += more;
+    }
+    Input::Bytes(done)
+}
+
+// Writes the text of the bytes. The buffer has room for the longest.
+fn print(bytes: &[u8]) {
     let mut text = [0u8; 376854];
-    match listing::list(&input[..count], &mut text) {
+    match listing::list(bytes, &mut text) {
         Listed::Text(length) => {
-            io::write_all(STDOUT_FILENO, &text[..length]);
+            if !io::write_all(STDOUT_FILENO, &text[..length]) {
+                os::fail(b"lister: the text could not be written");
+            }
         }
         Listed::NoRoom(_) => never(),
+    }
+}
+
+// One byte more than an input may have is read, and no more.
+fn main() {
+    let mut input = [0u8; 65537];
+    match read_all(STDIN_FILENO, &mut input) {
+        Input::Bytes(count) => {
+            print(&input[..count]);
+            if LONGEST < count {
+                io::write_all(
+                    STDERR_FILENO,
+                    b"lister: more than 65536 bytes: `./list --long FILE` lists longer files\n",
+                );
+            }
+        }
+        Input::Failed => os::fail(b"lister: the input could not be read"),
     }
 }

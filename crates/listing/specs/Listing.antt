@@ -49,19 +49,27 @@ linesFrom skip [] = []
 linesFrom zero (word ∷ words) = blockThen (readFrom startOf (word ∷ words)) (λ skip. linesFrom skip words)
 linesFrom (suc skip) (word ∷ words) = linesFrom skip words
 
--- 16: "byte input: length no multiple of 4; lister also over 65,536 bytes"
+-- 16: "byte input: length no multiple of 4"
+abbrev pub cutWrong : ℕ → Bool
+cutWrong n = not (eqb (n % 4) 0)
+
+-- "lister also over 65,536 bytes"
 abbrev pub lengthWrong : ℕ → Bool
-lengthWrong n = not (eqb (n % 4) 0) || ltb 65536 n
+lengthWrong n = cutWrong n || ltb 65536 n
 
 -- "Refusal 16 prints its line alone."
-unfoldable pub linesOf : List ℕ → List Line
-linesOf bytes = cond (lengthWrong (length bytes)) (refusedLine 16 0 ∷ []) (linesFrom 0 (wordsOfBytes bytes))
+unfoldable pub linesUnless : Bool → List ℕ → List Line
+linesUnless wrong bytes = cond wrong (refusedLine 16 0 ∷ []) (linesFrom 0 (wordsOfBytes bytes))
 
--- the whole text of an input
+-- the whole text of an input of the lister
 unfoldable pub listingOf : List ℕ → List ℕ
-listingOf bytes = textOf (linesOf bytes)
+listingOf bytes = textOf (linesUnless (lengthWrong (length bytes)) bytes)
+
+-- the whole text of any number of bytes
+unfoldable pub longListingOf : List ℕ → List ℕ
+longListingOf bytes = textOf (linesUnless (cutWrong (length bytes)) bytes)
 
 -- a proof that computes opens this file and what it leans on by one name
 unfoldable pub allOpen : Unit {0}
-unfolding itemLines fillersIn blockLines linesFrom linesOf listingOf Rattle.scan.specs.After.allOpen Rattle.reader.specs.Reader.allOpen Rattle.fields.specs.Bytes.allOpen Rattle.entries.specs.Entries.allOpen Rattle.text.specs.Line.allOpen Rattle.lines.specs.Lines.allOpen
+unfolding itemLines fillersIn blockLines linesFrom linesUnless listingOf longListingOf Rattle.scan.specs.After.allOpen Rattle.reader.specs.Reader.allOpen Rattle.fields.specs.Bytes.allOpen Rattle.entries.specs.Entries.allOpen Rattle.text.specs.Line.allOpen Rattle.lines.specs.Lines.allOpen
 allOpen = tt

@@ -40,7 +40,7 @@ use Rattle.listing.specs.declared.Listed.{Listed}
 use Rattle.listing.specs.declared.Listed.the-variants as L
 use Rattle.lines.specs.Lines.{blockName, setupName, eventName, clockName, clock27Name, windowName, pulseName, pairName, integralName, timeName, pedName, endName, fillName, emptyName, refusedName, refusedLine, fillLines, clockLine}
 use Rattle.entries.specs.Entries.{highIn, secondOf, recordLines, fillerIn}
-use Rattle.listing.specs.Listing.{itemLines, fillersIn, isWhole, outLines, blockLines, linesFrom, lengthWrong, linesOf, listingOf}
+use Rattle.listing.specs.Listing.{itemLines, fillersIn, isWhole, outLines, blockLines, linesFrom, cutWrong, lengthWrong, linesUnless, listingOf}
 use Rattle.listing.specs.Says.{listedNumber, ListSays}
 use Rattle.listing.specs.BlockLaws.{whole-some}
 
@@ -201,7 +201,7 @@ lines-le zero (word ∷ words) h =
     go (Broken n p) block behind a b w d = omega (arith, count, size-none, size-both block [])
 
 pub listing-le : (bytes : List ℕ) → length (listingOf bytes) ≤ 376854
-unfolding listingOf linesOf
+unfolding listingOf linesUnless
 listing-le bytes = go (lengthWrong (length bytes)) refl
   where
     short : (a : Bool) (n : ℕ) → (a || ltb 65536 n) ≡ false → n ≤ 65536
@@ -211,7 +211,7 @@ listing-le bytes = go (lengthWrong (length bytes)) refl
     go : (b : Bool) → lengthWrong (length bytes) ≡ b → size (cond b (refusedLine 16 0 ∷ []) (linesFrom 0 (wordsOfBytes bytes))) ≤ 376854
     go true e = omega (arith, refused-le 16 0 (lit< tt) (lit< tt))
     go false e =
-        let n : length bytes ≤ 65536 = short (not (eqb (length bytes % 4) 0)) (length bytes) e in
+        let n : length bytes ≤ 65536 = short (cutWrong (length bytes)) (length bytes) e in
         omega (arith, words-le bytes, lines-le 0 (wordsOfBytes bytes) (omega (arith, words-le bytes)))
 
 -- a buffer of so many bytes has room for every text

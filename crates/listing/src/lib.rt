@@ -7,13 +7,13 @@ ghost use Rattle.fields.specs.Bytes.{wordsOfBytes};
 ghost use Rattle.text.specs.Page.{put};
 ghost use Rattle.text.specs.Line.{textOf};
 ghost use Rattle.lines.specs.Lines.{fillLines};
-ghost use Rattle.listing.specs.Listing.{outLines, linesFrom, listingOf};
-ghost use Rattle.listing.specs.Says.{BlockSays, ReadingSays, ListSays};
+ghost use Rattle.listing.specs.Listing.{outLines, linesFrom, linesUnless, listingOf, longListingOf};
+ghost use Rattle.listing.specs.Says.{BlockSays, ReadingSays, ListSays, LongSays};
 use reader::Judged;
 use refusals::Refusal;
 use scan::Scan;
 
-// The most bytes of an input.
+// The most bytes of an input of the lister.
 const LONGEST: usize = 65536;
 
 // What one block leaves: the next place of the text, the bytes that it takes, whether it is whole.
@@ -94,23 +94,41 @@ fn list_blocks(bytes: &[u8], text: &mut [u8]) -> usize
     at
 }
 
-// The whole text of an input.
-fn put_listing(bytes: &[u8], text: &mut [u8]) -> usize
-    ensures { λ r. ⌜ (now (text .exit), r) ≡ put (now (text .entry), 0) (listingOf (now (bytes .entry))) ⌝ }
+// The whole text of bytes, whose length may be wrong.
+fn put_listing(wrong: bool, bytes: &[u8], text: &mut [u8]) -> usize
+    ensures { λ r. ⌜ (now (text .exit), r) ≡ put (now (text .entry), 0) (textOf (linesUnless wrong (now (bytes .entry)))) ⌝ }
 {
-    if (bytes.len() % 4 != 0) | (LONGEST < bytes.len()) {
+    if wrong {
         return lines::put_refused(text, 0, refusals::number(Refusal::Bytes), 0);
     }
     list_blocks(bytes, text)
 }
 
 // The text where it fits; where it does not, the buffer stays as it was. It is counted first, on no page at all.
-pub fn list(bytes: &[u8], text: &mut [u8]) -> Listed
-    ensures { λ r. ⌜ ListSays (listingOf (now (bytes .entry))) (now (text .entry)) r (now (text .exit)) ⌝ }
+fn list_unless(wrong: bool, bytes: &[u8], text: &mut [u8]) -> Listed
+    ensures { λ r. ⌜ LongSays (textOf (linesUnless wrong (now (bytes .entry)))) (now (text .entry)) r (now (text .exit)) ⌝ }
 {
-    let length = put_listing(bytes, &mut text[..0]);
+    let length = put_listing(wrong, bytes, &mut text[..0]);
     if text.len() < length {
         return Listed::NoRoom(length);
     }
-    Listed::Text(put_listing(bytes, text))
+    Listed::Text(put_listing(wrong, bytes, text))
+}
+
+// The text of an input of the lister.
+pub fn list(bytes: &[u8], text: &mut [u8]) -> Listed
+    ensures { λ r. ⌜ ListSays (listingOf (now (bytes .entry))) (now (text .entry)) r (now (text .exit)) ⌝ }
+{
+    list_unless(
+        (bytes.len() % 4 != 0) | (LONGEST < bytes.len()),
+        bytes,
+        text,
+    )
+}
+
+// The text of any number of bytes.
+pub fn list_long(bytes: &[u8], text: &mut [u8]) -> Listed
+    ensures { λ r. ⌜ LongSays (longListingOf (now (bytes .entry))) (now (text .entry)) r (now (text .exit)) ⌝ }
+{
+    list_unless(bytes.len() % 4 != 0, bytes, text)
 }

@@ -6,16 +6,14 @@ use mathlib.Core.List.{List}
 use lib.Dec.{leb}
 use lib.ListN.{length}
 use Rattle.ground.specs.Splice.{splice}
+use Rattle.refusals.specs.Refusal.{badArray}
 use Rattle.records.specs.declared.answer.Next.{Next}
 use Rattle.records.specs.declared.answer.Next.the-variants as N
 use Rattle.records.specs.Next.{nextAt}
 use Rattle.cursors.specs.Cursors.{isScan, scanFrom, scanStored}
 use Rattle.cells.specs.Cells.{recordCount, recordNumbers, endNumbers, noNumbers}
 
--- an array of C is not as long as it must be, or holds what it cannot hold: our own number, no paper's
-abbrev pub badArray : ℕ
-badArray = 64
-
+-- an array is not as the header says
 abbrev pub badAnswer : ℕ
 badAnswer = badArray * 2 ^ 32
 

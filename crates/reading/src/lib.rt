@@ -10,11 +10,8 @@ use records::answer::Next;
 use records::answer::Record;
 use scan::Scan;
 
-// An array of C is not as long as it must be, or holds what it cannot hold. No paper's number.
-pub const BAD_ARRAY: u64 = 64;
-
-// The same, as an answer.
-const BAD_ANSWER: u64 = BAD_ARRAY * 4294967296;
+// What is answered where an array is not as the header says.
+const BAD_ANSWER: u64 = refusals::BAD_ARRAY as u64 * 4294967296;
 
 // Copies `new` over the front of the numbers.
 fn put_front(out: &mut [u64], new: &[u64])

@@ -38,3 +38,7 @@ numberOf Count = 14
 numberOf Slot = 15
 -- the input's bytes are no words
 numberOf Bytes = 16
+
+-- from C: an array is not as long as the header says, or holds what it cannot hold. It is no number of the paper's table
+abbrev pub badArray : ℕ
+badArray = 64

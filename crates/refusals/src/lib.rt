@@ -40,6 +40,9 @@ pub enum Refusal {
     Bytes,
 }
 
+// From C: an array is not as long as the header says, or holds what it cannot hold. It is none of the paper's numbers.
+pub const BAD_ARRAY: u32 = 64;
+
 // The paper's number of a refusal, 0 for none.
 pub fn number(refusal: Refusal) -> u32
     ensures { λ r. ⌜ r ≡ numberOf refusal ⌝ }

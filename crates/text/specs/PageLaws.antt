@@ -6,8 +6,8 @@ use mathlib.Core.List.{List, [], _∷_, _++_}
 use native.Mathlib.Omega.{arith}
 use native.Mathlib.Nat.{zero-add}
 use native.Mathlib.Numerals.{add-one}
-use borrow.Author.Tests.{lt-ltb, le-ltb, ltb-true, ltb-false}
-use lib.Dec.{ltb}
+use borrow.Author.Tests.{lt-ltb, le-ltb, ltb-true, ltb-false, le-leb, lt-leb}
+use lib.Dec.{leb, ltb}
 use lib.ListN.{length, drop, set, getD, length-set, drop-of-length-le}
 use lib.Seq.{set-out, drop-cons, sets, sets-eq}
 use Rattle.text.specs.Page.{Page, farthest, past, putByte, put}
@@ -88,3 +88,28 @@ as-sets l at (x ∷ xs) h = ap (λ (k : ℕ). put (set l at x, k) xs .0) next �
 
 pub put-all : (l xs : List ℕ) → length xs ≤ length l → length l ≤ farthest → put (l, 0) xs .0 ≡ xs ++ drop (length xs) l
 put-all l xs h k = as-sets l 0 xs (omega arith) ∙ sets-eq xs l 0 (omega arith) ∙ rw zero-add
+
+-- ---- put on no page first, and so counted; then where all fits
+
+nil-of : (l : List ℕ) → length l ≡ 0 → l ≡ []
+nil-of [] e = refl
+nil-of (x ∷ l) e = absurd (omega arith)
+
+module _ (all l none : List ℕ) (n : ℕ) (e : _≡_ {A = Page} (none, n) (put ([], 0) all)) where
+  pub none-put : none ≡ []
+  none-put = nil-of none (ap (λ (p : Page). length (p .0)) e ∙ put-length ([], 0) all)
+
+  pub none-count : n ≡ min (length all) farthest
+  none-count = ap (λ (p : Page). p .1) e ∙ place-all [] all
+
+  pub short : length (none ++ l) < n → leb (length all) (length l) ≡ false
+  short h =
+      let k : length l < n = rw none-put at h in
+      lt-leb (length all) (length l) (omega (arith, none-count))
+
+  pub fitting : (r : ℕ) (l′ : List ℕ) → n ≤ length (none ++ l) → length l < farthest → _≡_ {A = Page} (l′, r) (put (none ++ l, 0) all) → (r ≡ min (length all) farthest) × (leb (length all) (length l) ≡ true) × (l′ ≡ all ++ drop (length all) l)
+  fitting r l′ h m g =
+      let g′ : _≡_ {A = Page} (l′, r) (put (l, 0) all) = rw none-put at g in
+      let k : n ≤ length l = rw none-put at h in
+      let i : length all ≤ length l = omega (arith, none-count) in
+      (ap (λ (p : Page). p .1) g′ ∙ place-all l all, le-leb (length all) (length l) i, ap (λ (p : Page). p .0) g′ ∙ put-all l all i (omega arith))

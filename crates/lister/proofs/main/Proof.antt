@@ -1,19 +1,14 @@
--- `lister::main` meets its contract: a text that is told lies in the buffer, and the buffer has room for every text.
-use native.Mathlib.Omega.{arith}
+-- `lister::main` meets its contract: the bytes that were read lie in the buffer.
+use Rattle.lister.specs.Within.{lies, lies-take}
 use borrow.Author.Needs.{needs}
-use Rattle.listing.specs.RoomLaws.{within, within-take}
-use Rattle.listing.specs.MostLaws.{always-room}
 use Rattle.lister.proofs.main.Statement.{statement}
 use Rattle.lister.proofs.main.Tie as tie
 
-array-share-prefix-text : tie.Need-array-share-prefix-text
-array-share-prefix-text c = within (c .before .length .given .1) (c .before .before .before .before .list .ensures)
+array-share-prefix-input : tie.Need-array-share-prefix-input
+array-share-prefix-input c = lies (c .before .count .given .1) (c .before .before .before .before .read-all .ensures)
 
-slice-aggregate-write-all : tie.Need-slice-aggregate-write-all
-slice-aggregate-write-all c = within-take (c .before .before .length .given .1) (c .before .before .before .before .before .list .ensures)
-
-never-requires : tie.Need-never-requires
-never-requires c κs = always-room _ (omega arith) (c .enum-told .given .1) (c .before .before .before .list .ensures)
+slice-aggregate-print : tie.Need-slice-aggregate-print
+slice-aggregate-print c = lies-take (c .before .before .count .given .1) (c .before .before .before .before .before .read-all .ensures)
 
 pub main-spec : {M : Type 1} → statement M
 main-spec =
@@ -22,14 +17,14 @@ main-spec =
     (λ c. search needs)
     (λ c κs. search needs)
     (λ c. search needs)
+    array-share-prefix-input
+    slice-aggregate-print
+    (λ c κs. search needs)
+    (λ c. search needs)
+    (λ c κs. search needs)
     (λ c. search needs)
     (λ c. search needs)
     (λ c κs. search needs)
     (λ c. search needs)
-    array-share-prefix-text
-    slice-aggregate-write-all
-    (λ c κs. search needs)
-    (λ c. search needs)
-    never-requires
     (λ c. search needs)
     (λ c. search needs))
