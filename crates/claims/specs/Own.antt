@@ -58,7 +58,7 @@ postedWindow (a ∷ ns) c = cond (eqb (a .0 .channel) c && eqb (a .1) 0) (a .0 .
 abbrev pub closedWords : EventRun → List ℕ
 closedWords e = take (e .answer .state .words - e .end .state .words) (drop (e .end .state .words) (e .words′))
 
--- "4 window: 26-23 channel", "6 pulse raw: 26-23 channel", and so 7, 8 and 10
+-- the channel stands in bits 26-23 of types 4, 6, 7, 8 and 10
 abbrev pub channelTypes : List ℕ
 channelTypes = 4 ∷ 6 ∷ 7 ∷ 8 ∷ 10 ∷ []
 

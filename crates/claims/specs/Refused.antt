@@ -1,4 +1,4 @@
--- Demand 1: "a refusal has the table's number, exactly when the table says, hands back the same state, alters no sample or word." The contracts
+-- Demand 1: "A refusal .. returns the state it was handed and alters no sample or word." The contracts
 -- say the number; here is the rest, for every call and every input. Assumes nothing.
 use Prim.Native.Nat.{ℕ}
 use mathlib.Core.Path.{_≡_, _∙_}

@@ -1,4 +1,4 @@
--- Demand 2: "reading back a block made by our calls gives every field as written". Assumes nothing.
+-- Demand 2: "Reading a block .. gives back every field as written". Assumes nothing.
 use Prim.Native.Nat.{ℕ, zero, suc, _+_, _≤_}
 use mathlib.Core.Path.{_≡_, refl, sym, ap, ap₂, _∙_, subst}
 use mathlib.Core.Bool.{Bool, true, false, cond, _||_, true≢false}

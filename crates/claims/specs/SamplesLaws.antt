@@ -1,4 +1,4 @@
--- Demand 2 over samples: "reading back a block made by our calls gives every field as written", in modes 1, 2 and 8 every sample. Assumes nothing.
+-- Demand 2 over samples: "Reading a block .. gives back every field as written", in modes 1, 2 and 8 every sample. Assumes nothing.
 use Prim.Native.Nat.{ℕ, zero, suc, _+_}
 use mathlib.Core.Path.{_≡_, refl, sym, ap, ap₂, _∙_, subst}
 use mathlib.Core.Bool.{Bool, true, false, not, cond, _&&_, _||_}

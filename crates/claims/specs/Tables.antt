@@ -1,4 +1,4 @@
--- Demand 1: "a refusal has the table's number, exactly when the table says". One law for all tables, a line for each call; the tables read in the order
+-- Demand 1: "A refusal has the number our table gives, is given exactly when the table says". One law for all tables, a line for each call; the tables read in the order
 -- that document 01 names; and what an accepted call gives is never refused for its ranges. Assumes nothing.
 use Prim.Native.Nat.{ℕ, _≤_}
 use mathlib.Core.Path.{_≡_, refl, sym, ap, _∙_}
@@ -74,7 +74,7 @@ pub find-order : (s : Settings) (c : ℕ) (w : List ℕ) → rowNumbers (findTab
 unfolding findTable
 find-order s c w = refl
 
--- the reader, "at each word, in this order: 14 ..; 11 no word left; 12 ..; 15 ..; 13 ..; 14 .."
+-- the reader: "At each word, in this order: 14 ..; 11 no word left; 12 ..; 15 ..; 13 ..; 14 .."
 pub end-order : (s : Scan) → rowNumbers (questions s []) ≡ 14 ∷ 11 ∷ []
 end-order s = refl
 

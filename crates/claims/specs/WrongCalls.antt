@@ -1,4 +1,4 @@
--- Demand 2: "a block that breaks the layout is refused at its first wrong word": the calls that answer a refusal and its place. Assumes nothing.
+-- Demand 2: "A block that breaks the layout is refused at its first wrong word": the calls that answer a refusal and its place. Assumes nothing.
 use Prim.Native.Nat.{ℕ, _%_}
 use mathlib.Core.Path.{_≡_}
 use mathlib.Core.Bool.{Bool, not}
@@ -13,12 +13,12 @@ use Rattle.records.specs.declared.answer.Next.the-variants as N
 use Rattle.records.specs.Next.{nextAt}
 use Rattle.layout.specs.Wrong.{questions, WrongAt, stopOf}
 
--- the C check: "16 .. length no multiple of 4", "for 16 the place is 0"; else the first wrong word
+-- the C check: 16, "byte input: length no multiple of 4", "for 16 the place is 0"; else the first wrong word
 pub data CheckWrong (bytes : List ℕ) : ℕ → ℕ → Type 0 where
   odd-length : (length bytes % 4 ≡ 0 → ⊥) → CheckWrong bytes 16 0
   wrong-word : {n p : ℕ} → length bytes % 4 ≡ 0 → WrongAt startOf (wordsOfBytes bytes) n p → CheckWrong bytes n p
 
--- what it asks, in one table: "16 byte input: length no multiple of 4", then what is asked where the reading stops
+-- what it asks, in one table: 16, "byte input: length no multiple of 4", then what is asked where the reading stops
 unfoldable pub checkQuestions : List ℕ → List (ℕ × Bool)
 checkQuestions bytes =
     let t : Scan × List ℕ = stopOf startOf (wordsOfBytes bytes) in

@@ -1,4 +1,4 @@
--- Demand 2: "a block that breaks the layout is refused at its first wrong word", both ways, for the C check, and for `next`. Assumes nothing.
+-- Demand 2: "A block that breaks the layout is refused at its first wrong word", both ways, for the C check, and for `next`. Assumes nothing.
 use Prim.Native.Nat.{ℕ, _+_, _-_, _*_, _/_, _%_, _^_, _<_}
 use mathlib.Core.Path.{_≡_, refl, sym, ap, ap₂, _∙_, subst}
 use mathlib.Core.Bool.{Bool, true, false, not, cond}
@@ -54,7 +54,7 @@ check-wrong bytes n p some small = (there (eqb (length bytes % 4) 0) refl, back)
     back (odd-length h) = rw (ne-eqb _ 0 h)
     back (wrong-word h a) = rw (eq-eqb _ 0 h) (ap numberOfOut (sym (check-reads startOf ws) ∙ first-wrong ws _ _ .1 a))
 
--- "16 at the C check" and 11 to 15: the refusal in its number is the first of the table's rows that holds
+-- 16, and 11 to 15: the refusal in its number is the first of the table's rows that holds
 pub check-refusal-exactly : (bytes : List ℕ) → Exactly (checkQuestions bytes) (checkNumber bytes / 2 ^ 32)
 unfolding checkNumber checkQuestions firstOf
 check-refusal-exactly bytes = exactly (checkQuestions bytes) (go (eqb (length bytes % 4) 0))
