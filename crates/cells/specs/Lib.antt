@@ -1,1 +1,3 @@
 pub mod Cells
+pub mod CellsLaws
+pub mod SoundLaws

@@ -137,16 +137,16 @@ fn window_numbers(r: WindowRaw, pairs: Pairs) -> [u64; RECORD]
     ]
 }
 
-fn pulse_raw_numbers(r: PulseRaw, pairs: Pairs) -> [u64; RECORD]
-    ensures { λ n. ⌜ n ≡ recordNumbers (Record.Raw r pairs) ⌝ }
+fn pulse_raw_numbers(r: PulseRaw, part: Pairs) -> [u64; RECORD]
+    ensures { λ n. ⌜ n ≡ recordNumbers (Record.Raw r part) ⌝ }
 {
     [
         PULSE_RAW,
         r.channel as u64,
         r.pulse as u64,
         r.tc as u64,
-        pairs.place as u64,
-        pairs.count as u64,
+        part.place as u64,
+        part.count as u64,
     ]
 }
 
@@ -232,7 +232,7 @@ pub fn record_numbers(x: Record) -> [u64; RECORD]
         Record::Time48(r, high) => time48_numbers(r, high),
         Record::TimeHigh(r) => high_numbers(r),
         Record::Window(r, pairs) => window_numbers(r, pairs),
-        Record::Raw(r, pairs) => pulse_raw_numbers(r, pairs),
+        Record::Raw(r, part) => pulse_raw_numbers(r, part),
         Record::Pair(r) => pair_numbers(r),
         Record::Integral(r) => integral_numbers(r),
         Record::Time(r) => time_numbers(r),

@@ -7,15 +7,17 @@ use lib.ListN.{length, getD, take, drop, replicate}
 use Rattle.items.specs.declared.Item.{Item}
 use Rattle.scan.specs.After.{startOf}
 use Rattle.scan.specs.declared.Scan.{Scan}
-use Rattle.reader.specs.Reader.{Whole, readFrom}
+use Rattle.reader.specs.Reader.{Whole, readFrom, checkFrom}
 use Rattle.reader.specs.RunLaws.{before}
 use Rattle.records.specs.declared.answer.Record.{Record}
 use Rattle.records.specs.declared.answer.Next.{Next}
 use Rattle.records.specs.declared.answer.Next.the-variants as N
 use Rattle.records.specs.Next.{Made}
 use Rattle.records.specs.Answers.{NextSays}
+use Rattle.bytecheck.specs.Check.{numberOfOut}
 use Rattle.cursors.specs.Cursors.{scanCount, cursorOf}
 use Rattle.cells.specs.Cells.{recordCount, endKind, recordNumbers}
+use Rattle.cells.specs.CellsLaws.{TimeSound}
 use Rattle.reading.specs.Reading.{roomFor, toldBy, recordOf, filled, NextFace}
 
 -- ---- one call
@@ -49,11 +51,11 @@ pub data CReads (words : List ℕ) : List ℕ → List (List ℕ) → Type 0 whe
   gave-none : {n : List ℕ} {cells : List (List ℕ)} → CReads words n cells → (out : List ℕ) (r : ℕ) (n′ out′ : List ℕ) → NextFace n words out r n′ out′ → (Gave r out′ → ⊥)
       → CReads words n′ cells
 
--- the records whose numbers these are, and the items that they are made of, one after the other: "each item answers one of a set of named records carrying
--- its fields; a raw item carries place and pair count"
+-- the records whose numbers these are, and the items that they are made of, one after the other: "Each item answers one of a set of named records carrying
+-- its fields; a raw item carries place and pair count". A time is sound, so that the numbers are no other record's
 pub data Recorded : List (List ℕ) → List Item → Type 0 where
   none : Recorded [] []
-  another : {cells : List (List ℕ)} {xs : List Item} → Recorded cells xs → (x : Record) (items : List Item) → Made (length xs + 1) x items
+  another : {cells : List (List ℕ)} {xs : List Item} → Recorded cells xs → (x : Record) (items : List Item) → Made (length xs + 1) x items → TimeSound x
       → Recorded (cells ++ (recordNumbers x ∷ [])) (xs ++ items)
 
 -- where such calls stand: the numbers left are a scan's; the items of the records stand first in the reading of the words, and the rest is read from that scan on
@@ -70,3 +72,13 @@ pub record ReadWhole (words : List ℕ) (cells : List (List ℕ)) (size : ℕ) :
   pub items : List Item
   pub records : Recorded cells items
   pub read : readFrom startOf words ≡ record { items = items; out = Whole size }
+
+-- that they come to an end: with room for a record at each, calls lead to one that gives none; what it answers is what the check says of the words
+pub record Stops (words : List ℕ) : Type 0 where
+  pub numbers : List ℕ
+  pub cells : List (List ℕ)
+  pub calls : CReads words numbers cells
+  pub answer : ℕ
+  pub out : List ℕ
+  pub last : NextFace numbers words (replicate recordCount 0) answer numbers out
+  pub checked : numberOfOut (checkFrom startOf words) ≡ answer

@@ -1,12 +1,12 @@
 -- Reading a block from C is the library's reading of it: call by call, and up to the block's end or the refusal that the check answers. Assumes nothing.
-use Prim.Native.Nat.{ℕ, _+_, _*_, _-_, _^_, _≤_, _<_}
+use Prim.Native.Nat.{ℕ, zero, suc, _+_, _*_, _-_, _^_, _≤_, _<_}
 use mathlib.Core.Path.{_≡_, refl, sym, ap, _∙_, subst}
 use mathlib.Core.Bool.{Bool, true, false, cond}
 use mathlib.Core.List.{List, [], _∷_, _++_, append-nil}
 use native.Mathlib.Omega.{arith}
 use contract.Lifetimes.{Lfts}
 use denote.Ref.{now}
-use lib.ListN.{length, getD, take, drop, length-append}
+use lib.ListN.{length, getD, take, drop, replicate, length-append}
 use lib.Seq.{drop-drop, take-at}
 use Rattle.ground.specs.Splice.{splice}
 use Rattle.ground.specs.SpliceLaws.{splice-front}
@@ -25,17 +25,18 @@ use Rattle.records.specs.AnswersLaws.{next-answers}
 use Rattle.bytecheck.specs.Check.{numberOfOut, checkNumber}
 use Rattle.cursors.specs.Cursors.{isScan, scanFrom, cursorOf}
 use Rattle.cursors.specs.CursorsLaws.{scan-over, scan-back, scan-is, start-zeros}
-use Rattle.cells.specs.Cells.{recordCount, kindOf, endKind, fieldNumbers, recordNumbers, endNumbers}
-use Rattle.reading.specs.Reading.{badAnswer, roomFor, toldBy, scanLeft, recordOf, NextFace}
+use Rattle.cells.specs.Cells.{recordCount, kindOf, endKind, fieldNumbers, recordNumbers, endNumbers, noNumbers}
+use Rattle.cells.specs.SoundLaws.{took-sound}
+use Rattle.reading.specs.Reading.{badAnswer, roomFor, toldBy, scanLeft, recordOf, filled, NextFace}
 use Rattle.host.proofs as host
 use Rattle.layout.specs.NothingLost.{AllWords}
 use Rattle.layout.specs.FirstWrong.{placeOf, place-counts, place-small}
 use Rattle.layout.specs.WrongLaws.{first-wrong}
 use Rattle.claims.specs.Bytes.{bytesOfWords}
 use Rattle.claims.specs.CheckLaws.{check-bytes}
-use Rattle.claims.specs.ReadsLaws.{before-items, before-out}
+use Rattle.claims.specs.ReadsLaws.{made-some, before-items, before-out}
 use Rattle.claims.specs.Ties.{Reference}
-use Rattle.claims.specs.ReadFromC.{scanAfter, NextCall, Gave, CReads, at-start, gave, gave-none, Recorded, none, another, ReadSoFar, ReadWhole}
+use Rattle.claims.specs.ReadFromC.{scanAfter, NextCall, Gave, CReads, at-start, gave, gave-none, Recorded, none, another, ReadSoFar, ReadWhole, Stops}
 
 -- what is supposed of a call is what C learns from its own `ensures`
 pub fadc250-next-tied : (κs : Lfts 3) (scan scan′ words out out′ : Reference) (r : ℕ)
@@ -206,7 +207,7 @@ module _ (words : List ℕ) (s : Scan) (xs : List Item) (b : Behind words s xs) 
         scan = u;
         numbers = numbers;
         items = xs ++ taken words s xs b e .items;
-        records = subst (λ (c : List ℕ). Recorded (cells ++ (c ∷ [])) (xs ++ taken words s xs b e .items)) (sym (filled-back x out filled)) (another recorded x (taken words s xs b e .items) (made words s xs b e));
+        records = subst (λ (c : List ℕ). Recorded (cells ++ (c ∷ [])) (xs ++ taken words s xs b e .items)) (sym (filled-back x out filled)) (another recorded x (taken words s xs b e .items) (made words s xs b e) (took-sound words s e));
         place = t .place;
         run = t .run;
       }
@@ -287,3 +288,62 @@ c-refusal-checked {words} c out {r} {n′} {out′} f high low w =
     let a = c-reads c in
     check-bytes words w ∙ ap numberOfOut (sym (check-reads startOf words))
     ∙ after-refusal words (a .scan) (a .items) (so-far a) _ (a .records) out r n′ out′ (nextAt words (a .scan)) (roomFor out) refl (seen words (a .scan) out (a .numbers) f) high low
+
+-- ---- calls come to an end
+
+-- what a call leaves, by the library's answer
+face-of : (words : List ℕ) (s : Scan) (out : List ℕ) (x : Next) → nextAt words s ≡ x
+    → NextFace (cursorOf s) words out (toldBy x (roomFor out)) (cursorOf (scanAfter x (roomFor out) s)) (filled out (recordOf x))
+face-of words s out x e =
+    record {
+      number = rw (scan-is s, scan-back s, e);
+      numbers = rw (scan-is s, scan-back s, e) (sym (scan-left s x (roomFor out)));
+      cells = rw (scan-is s, scan-back s, e);
+    }
+
+stops-from : (most : ℕ) (words : List ℕ) (s : Scan) (xs : List Item) → Behind words s xs → {cells : List (List ℕ)} → CReads words (cursorOf s) cells
+    → length ((readFrom startOf words) .items) < most + length xs → Stops words
+stops-from zero words s xs b c few =
+    absurd (omega (arith, few, ap (λ (r : Reading). length (r .items)) (b .run) ∙ ap length (before-items xs _) ∙ length-append xs ((readFrom s (drop (s .place) words)) .items)))
+stops-from (suc most) words s xs b {cells} c few = go (nextAt words s) refl
+  where
+    zeros : List ℕ
+    zeros = replicate recordCount 0
+
+    go : (x : Next) → nextAt words s ≡ x → Stops words
+    unfolding zeros
+    go (N.Took x u) e =
+        let t = behind words s xs b e in
+        let low : u .place < 2 ^ 32 = place-below words u _ t in
+        let out : List ℕ = splice zeros 0 (recordNumbers x) in
+        let kind : getD out 0 0 ≡ kindOf x = filled-kind (kindOf x) (fieldNumbers x) zeros refl in
+        let on : CReads words (cursorOf u) _ = gave c zeros (u .place) (cursorOf u) out (face-of words s zeros (N.Took x u) e) (low, λ k. omega (arith, kind-below x, k, kind)) in
+        let items : List Item = taken words s xs b e .items in
+        stops-from most words u (xs ++ items) t on (omega (arith, few, length-append xs items, made-some _ x items (taken words s xs b e .made)))
+    go (N.End m) e =
+        record {
+          numbers = cursorOf s;
+          cells = cells;
+          calls = c;
+          answer = m;
+          out = splice zeros 0 endNumbers;
+          last = face-of words s zeros (N.End m) e;
+          checked = ap numberOfOut (sym (check-reads startOf words) ∙ ap (λ (r : Reading). r .out) (ended-run words s xs b e));
+        }
+    go (N.Refused m p) e =
+        record {
+          numbers = cursorOf s;
+          cells = cells;
+          calls = c;
+          answer = m * 2 ^ 32 + p;
+          out = splice zeros 0 noNumbers;
+          last = face-of words s zeros (N.Refused m p) e;
+          checked = ap numberOfOut (sym (check-reads startOf words) ∙ refused-out words s xs b e);
+        }
+
+-- whatever the words
+pub c-stops : (words : List ℕ) → Stops words
+c-stops words =
+    stops-from (suc (length ((readFrom startOf words) .items))) words startOf [] (record { place = refl; run = refl })
+    (subst (λ (n : List ℕ). CReads words n []) (sym start-zeros) at-start)
+    (omega arith)

@@ -40,7 +40,7 @@ use Rattle.claims.specs.Reads.{PartRead, Reads, at-end, took}
 one-item : {items : List Item} (x : Item) (xs : List Item) → items ≡ x ∷ xs → 1 ≤ length items
 one-item x xs e = omega (arith, ap length e)
 
-made-some : (place : ℕ) (r : Record) (items : List Item) → Made place r items → 1 ≤ length items
+pub made-some : (place : ℕ) (r : Record) (items : List Item) → Made place r items → 1 ≤ length items
 made-some place (R.Block r) items m = one-item _ _ m
 made-some place (R.Parameters r) items m = one-item _ _ m
 made-some place (R.Event r) items m = one-item _ _ m

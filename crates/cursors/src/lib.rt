@@ -1,6 +1,6 @@
 // Where the reading of a block stands, as numbers that C lends: asked for, loaded, stored.
 ghost use mathlib.Core.Path.{_≡_};
-ghost use Prim.Native.Nat.{_+_, _≤_};
+ghost use Prim.Native.Nat.{_≤_};
 ghost use lib.ListN.{length, getD};
 ghost use Rattle.ground.specs.Splice.{splice};
 ghost use Rattle.cursors.specs.Cursors.{bitOf, stageNumber, stageFirst, stageSecond, cursorOf, isScan, stageFrom, scanFrom, scanStored};

@@ -29,7 +29,7 @@ fn put_front(out: &mut [u64], new: &[u64])
 fn fill(out: &mut [u64], new: [u64; cells::RECORD])
     ensures { λ _. ⌜ now (out .exit) ≡ filled (now (out .entry)) new ⌝ }
 {
-    if out.len() < cells::RECORD {
+    if out.len() < new.len() {
         return;
     }
     put_front(out, &new);
