@@ -18,6 +18,7 @@ pub mod Bytes
 pub mod CheckLaws
 pub mod Runs
 pub mod BenchRuns
+pub mod LongLaws
 pub mod FollowedLaws
 pub mod FromC
 pub mod FromCLaws

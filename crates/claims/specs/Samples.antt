@@ -6,7 +6,6 @@ use mathlib.Core.List.{List, [], _∷_, _++_}
 use lib.Dec.{eqb}
 use lib.ListN.{length, getD}
 use Rattle.ground.specs.Tests.{oneOf}
-use Rattle.fields.specs.Word.{read}
 use Rattle.settings.specs.declared.Settings.{Settings}
 use Rattle.finder.specs.declared.Pulse.{Pulse}
 use Rattle.search.specs.Search.{anyOver}
@@ -15,6 +14,7 @@ use Rattle.items.specs.declared.Item.the-variants as I
 use Rattle.records.specs.declared.answer.Record.{Record}
 use Rattle.records.specs.declared.answer.Record.the-variants as R
 use Rattle.rawitems.specs.Pairs.{partOf}
+use Rattle.rawsamples.specs.RawSamples.{samplesOf}
 use Rattle.scan.specs.declared.Scan.{Scan}
 use Rattle.pulse.specs.Pulse.{setOf}
 use Rattle.channel.specs.Channel.{commonOf, pulsesOf}
@@ -24,15 +24,6 @@ use Rattle.claims.specs.Reads.{Reads, at-end, took}
 use Rattle.claims.specs.Run.{Run, opened, begun, posted, closed, not-closed, not-opened, not-finished}
 
 -- ---- read back
-
--- a sample, where its flag does not say "not valid"
-abbrev pub ifValid : ℕ → ℕ → List ℕ
-ifValid flag sample = cond (eqb flag 0) (sample ∷ []) []
-
--- the samples of pairs: "29 first not valid, 28-16 first sample, .. 13 second not valid, 12-0 second"
-unfoldable pub samplesOf : List ℕ → List ℕ
-samplesOf [] = []
-samplesOf (word ∷ words) = ifValid (read 29 29 word) (read 28 16 word) ++ (ifValid (read 13 13 word) (read 12 0 word) ++ samplesOf words)
 
 -- a window or a pulse raw, with the samples of what `part` gives for it
 abbrev pub recordSamples : List ℕ → Record → List (Item × List ℕ)

@@ -24,6 +24,7 @@ use Rattle.rawitems.specs.declared.Pairs.{Pairs}
 use Rattle.records.specs.declared.answer.Record.{Record}
 use Rattle.records.specs.declared.answer.Record.the-variants as R
 use Rattle.rawitems.specs.Pairs.{partOf}
+use Rattle.rawsamples.specs.RawSamples.{ifValid, samplesOf}
 use Rattle.records.specs.Next.{fillerAt, AllAre, isPair, startsPair, PairsMade, Made, OfRaw}
 use Rattle.pulse.specs.declared.Parts.{Parts}
 use Rattle.pairs.specs.Pairs.{pairItems}
@@ -47,16 +48,16 @@ use Rattle.claims.specs.Order.{Bench, Post}
 use Rattle.claims.specs.OrderLaws.{answerOf, has, run-posts}
 use Rattle.claims.specs.Own.{EventRun, settingsIn, postedWindow}
 use Rattle.claims.specs.OwnLaws.{windowFor, itemsFor, ownItems, own-records}
-use Rattle.claims.specs.Samples.{ifValid, samplesOf, recordSamples, samplesRead, setsSent, channelSent, rowsSent, windowSent, windowsSent, samplesSent}
+use Rattle.claims.specs.Samples.{recordSamples, samplesRead, setsSent, channelSent, rowsSent, windowSent, windowsSent, samplesSent}
 
 -- ---- pairs of samples
 
 -- a pair's word gives its fields back
 pair-samples : (r : SamplePair) (words : List ℕ) → leb (r .nofirst) 1 ≡ true → leb (r .first) 8191 ≡ true → leb (r .nosecond) 1 ≡ true → leb (r .second) 8191 ≡ true
-    → samplesOf (wordOf (I.Pair r) ∷ words) ≡ ifValid (r .nofirst) (r .first) ++ (ifValid (r .nosecond) (r .second) ++ samplesOf words)
+    → samplesOf (wordOf (I.Pair r) ∷ words) ≡ (ifValid (r .nofirst) (r .first) ++ ifValid (r .nosecond) (r .second)) ++ samplesOf words
 unfolding samplesOf wordOf pairOf pair
 pair-samples r words a b c d =
-    ap (λ (p : SamplePair). ifValid (p .nofirst) (p .first) ++ (ifValid (p .nosecond) (p .second) ++ samplesOf words)) (pair-there r (both a (both b (both c d))))
+    ap (λ (p : SamplePair). (ifValid (p .nofirst) (p .first) ++ ifValid (p .nosecond) (p .second)) ++ samplesOf words) (pair-there r (both a (both b (both c d))))
 
 -- "A sample is 0 to 8,191": written in pairs and read again
 pub samples-back : (w : List ℕ) → Under 8191 w → samplesOf (wordsOf (pairItems w)) ≡ w

@@ -23,6 +23,9 @@ use Rattle.scan.specs.After.{startOf}
 use Rattle.reader.specs.Reader.{endNumber}
 use Rattle.reader.specs.Answers.{StepSays, JudgedSays}
 use Rattle.rawitems.proofs as rawitems
+use Rattle.rawsamples.proofs as rawsamples
+use Rattle.rawsamples.specs.RawSamples.{samplesOf}
+use Rattle.rawsamples.specs.Says.{SamplesSay}
 use Rattle.records.proofs as records
 use Rattle.records.specs.declared.answer.Next.{Next}
 use Rattle.rawitems.specs.declared.Pairs.{Pairs}
@@ -33,8 +36,8 @@ use Rattle.bytecheck.specs.Check.{checkNumber}
 use Rattle.host.specs.Face.{SetUpFace, OpenBlockFace, OpenEventFace, PostFace, CloseFace, FinishFace, FindFace}
 use Rattle.listing.proofs as listing
 use Rattle.listing.specs.declared.Listed.{Listed}
-use Rattle.listing.specs.Listing.{listingOf}
-use Rattle.listing.specs.Says.{ListSays}
+use Rattle.listing.specs.Listing.{listingOf, longListingOf}
+use Rattle.listing.specs.Says.{ListSays, LongSays, LengthSays}
 
 -- a reference to lent words, samples, bytes or numbers: `now` are those it refers to
 abbrev pub Reference : Type 0
@@ -129,3 +132,21 @@ part-tied κs words p r e = e
 
 pub list-tied : (κs : Lfts 2) (bytes text text′ : Reference) (r : Listed) → listing.list.Reads.Learnt κs (bytes, (text, tt)) r (bytes, (text′, tt)) → ListSays (listingOf (now bytes)) (now text) r (now text′)
 list-tied κs bytes text text′ r p = p
+
+pub list-long-tied : (κs : Lfts 2) (bytes text text′ : Reference) (r : Listed)
+    → listing.list_long.Reads.Learnt κs (bytes, (text, tt)) r (bytes, (text′, tt)) → LongSays (longListingOf (now bytes)) (now text) r (now text′)
+list-long-tied κs bytes text text′ r p = p
+
+pub fadc250-list-tied : (κs : Lfts 2) (bytes text text′ : Reference) (r : ℕ)
+    → host.fadc250_list.Reads.Learnt κs (bytes, (text, tt)) r (bytes, (text′, tt)) → LengthSays (longListingOf (now bytes)) (now text) r (now text′)
+fadc250-list-tied κs bytes text text′ r p = p
+
+pub samples-tied : (κs : Lfts 2) (words : Reference) (place pairs : ℕ) (out out′ : Reference) (r : ℕ)
+    → rawsamples.samples.Reads.Learnt κs (words, (place, (pairs, (out, tt)))) r (words, (place, (pairs, (out′, tt))))
+    → SamplesSay (samplesOf (partOf (now words) (record { place = place; count = pairs }))) (now out) r (now out′)
+samples-tied κs words place pairs out out′ r p = p
+
+pub fadc250-samples-tied : (κs : Lfts 2) (words : Reference) (place pairs : ℕ) (out out′ : Reference) (r : ℕ)
+    → host.fadc250_samples.Reads.Learnt κs (words, (place, (pairs, (out, tt)))) r (words, (place, (pairs, (out′, tt))))
+    → SamplesSay (samplesOf (partOf (now words) (record { place = place; count = pairs }))) (now out) r (now out′)
+fadc250-samples-tied κs words place pairs out out′ r p = p

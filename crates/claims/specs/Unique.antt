@@ -49,6 +49,8 @@ use Rattle.scan.proofs as scan
 use Rattle.questions.proofs as questions
 use Rattle.reader.proofs as reader
 use Rattle.rawitems.proofs as rawitems
+use Rattle.rawsamples.proofs as rawsamples
+use Rattle.rawsamples.specs.RawSamplesLaws.{one-unpacking}
 use Rattle.follow.proofs as follow
 use Rattle.records.proofs as records
 use Rattle.numbers.proofs as numbers
@@ -60,7 +62,7 @@ use Rattle.text.specs.Page.{Page}
 use Rattle.lines.proofs as lines
 use Rattle.entries.proofs as entries
 use Rattle.listing.proofs as listing
-use Rattle.listing.specs.RoomLaws.{one-listing}
+use Rattle.listing.specs.RoomLaws.{one-listing, one-length}
 use Rattle.cursors.proofs as cursors
 use Rattle.cells.proofs as cells
 use Rattle.reading.proofs as reading
@@ -683,6 +685,19 @@ list-item-unique κs a r s u v p q = by-page (u .1) p q
 -- listing
 pub list-unique : Unique listing.list.ended listing.list.Reads.Learnt
 list-unique κs a r s u v p q = let e = one-listing p q in (e .0, λ i. (tt, (e .1 i, tt)))
+
+pub list-long-unique : Unique listing.list_long.ended listing.list_long.Reads.Learnt
+list-long-unique κs a r s u v p q = let e = one-listing p q in (e .0, λ i. (tt, (e .1 i, tt)))
+
+pub fadc250-list-unique : Unique host.fadc250_list.ended host.fadc250_list.Reads.Learnt
+fadc250-list-unique κs a r s u v p q = let e = one-length p q in (e .0, λ i. (tt, (e .1 i, tt)))
+
+-- rawsamples
+pub samples-unique : Unique rawsamples.samples.ended rawsamples.samples.Reads.Learnt
+samples-unique κs a r s u v p q = let e = one-unpacking p q in (e .0, λ i. (tt, (tt, (tt, (e .1 i, tt)))))
+
+pub fadc250-samples-unique : Unique host.fadc250_samples.ended host.fadc250_samples.Reads.Learnt
+fadc250-samples-unique κs a r s u v p q = let e = one-unpacking p q in (e .0, λ i. (tt, (tt, (tt, (e .1 i, tt)))))
 
 -- ---- reading from C
 

@@ -40,8 +40,8 @@ use Rattle.listing.specs.declared.Listed.{Listed}
 use Rattle.listing.specs.declared.Listed.the-variants as L
 use Rattle.lines.specs.Lines.{blockName, setupName, eventName, clockName, clock27Name, windowName, pulseName, pairName, integralName, timeName, pedName, endName, fillName, emptyName, refusedName, refusedLine, fillLines, clockLine}
 use Rattle.entries.specs.Entries.{highIn, secondOf, recordLines, fillerIn}
-use Rattle.listing.specs.Listing.{itemLines, fillersIn, isWhole, outLines, blockLines, linesFrom, cutWrong, lengthWrong, linesUnless, listingOf}
-use Rattle.listing.specs.Says.{listedNumber, ListSays}
+use Rattle.listing.specs.Listing.{itemLines, fillersIn, isWhole, outLines, blockLines, linesFrom, cutWrong, lengthWrong, linesUnless, listingOf, longListingOf}
+use Rattle.listing.specs.Says.{listedNumber, counted, ListSays}
 use Rattle.listing.specs.BlockLaws.{whole-some}
 
 -- ---- one record
@@ -213,6 +213,15 @@ listing-le bytes = go (lengthWrong (length bytes)) refl
     go false e =
         let n : length bytes ≤ 65536 = short (cutWrong (length bytes)) (length bytes) e in
         omega (arith, words-le bytes, lines-le 0 (wordsOfBytes bytes) (omega (arith, words-le bytes)))
+
+-- without the limit: the text of fewer than 10 ^ 17 bytes, more than any memory has, is counted whole
+pub long-counted : (bytes : List ℕ) → length bytes < 10 ^ 17 → counted (longListingOf bytes) ≡ length (longListingOf bytes)
+unfolding longListingOf linesUnless
+long-counted bytes h = omega (arith, go (cutWrong (length bytes)))
+  where
+    go : (b : Bool) → size (cond b (refusedLine 16 0 ∷ []) (linesFrom 0 (wordsOfBytes bytes))) ≤ 23 * length bytes + 22
+    go true = omega (arith, refused-le 16 0 (lit< tt) (lit< tt))
+    go false = omega (arith, words-le bytes, lines-le 0 (wordsOfBytes bytes) (omega (arith, words-le bytes)))
 
 -- a buffer of so many bytes has room for every text
 pub always-room : (bytes : List ℕ) {text : List ℕ} {r : Listed} {text′ : List ℕ} {n : ℕ} → 376854 ≤ length text → r ≡ L.NoRoom n → ListSays (listingOf bytes) text r text′ → ⊥
