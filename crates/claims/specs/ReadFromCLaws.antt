@@ -301,26 +301,28 @@ face-of words s out x e =
       cells = rw (scan-is s, scan-back s, e);
     }
 
+zeros : List ℕ
+zeros = replicate recordCount 0
+
 stops-from : (most : ℕ) (words : List ℕ) (s : Scan) (xs : List Item) → Behind words s xs → {cells : List (List ℕ)} → CReads words (cursorOf s) cells
     → length ((readFrom startOf words) .items) < most + length xs → Stops words
+unfolding zeros
 stops-from zero words s xs b c few =
     absurd (omega (arith, few, ap (λ (r : Reading). length (r .items)) (b .run) ∙ ap length (before-items xs _) ∙ length-append xs ((readFrom s (drop (s .place) words)) .items)))
-stops-from (suc most) words s xs b {cells} c few = go (nextAt words s) refl
+stops-from (suc most) words s xs b {cells} c few = go (nextAt words s) refl (λ u ys t given on. stops-from most words u ys t on)
   where
-    zeros : List ℕ
-    zeros = replicate recordCount 0
-
-    go : (x : Next) → nextAt words s ≡ x → Stops words
-    unfolding zeros
-    go (N.Took x u) e =
+    go : (x : Next) → nextAt words s ≡ x
+        → ((u : Scan) (ys : List Item) → Behind words u ys → (given : List (List ℕ)) → CReads words (cursorOf u) given → length ((readFrom startOf words) .items) < most + length ys → Stops words)
+        → Stops words
+    go (N.Took x u) e again =
         let t = behind words s xs b e in
         let low : u .place < 2 ^ 32 = place-below words u _ t in
         let out : List ℕ = splice zeros 0 (recordNumbers x) in
         let kind : getD out 0 0 ≡ kindOf x = filled-kind (kindOf x) (fieldNumbers x) zeros refl in
         let on : CReads words (cursorOf u) _ = gave c zeros (u .place) (cursorOf u) out (face-of words s zeros (N.Took x u) e) (low, λ k. omega (arith, kind-below x, k, kind)) in
         let items : List Item = taken words s xs b e .items in
-        stops-from most words u (xs ++ items) t on (omega (arith, few, length-append xs items, made-some _ x items (taken words s xs b e .made)))
-    go (N.End m) e =
+        again u (xs ++ items) t _ on (omega (arith, few, length-append xs items, made-some _ x items (taken words s xs b e .made)))
+    go (N.End m) e again =
         record {
           numbers = cursorOf s;
           cells = cells;
@@ -330,7 +332,7 @@ stops-from (suc most) words s xs b {cells} c few = go (nextAt words s) refl
           last = face-of words s zeros (N.End m) e;
           checked = ap numberOfOut (sym (check-reads startOf words) ∙ ap (λ (r : Reading). r .out) (ended-run words s xs b e));
         }
-    go (N.Refused m p) e =
+    go (N.Refused m p) e again =
         record {
           numbers = cursorOf s;
           cells = cells;
