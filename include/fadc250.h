@@ -379,14 +379,19 @@ uint64_t fadc250_samples(const uint32_t *words, size_t w, uint32_t place, uint32
    refused. */
 uint64_t fadc250_list(const uint8_t *bytes, size_t n, uint8_t *text, size_t t);
 
-/* An example in C and C++, a block of one event. Whole programs are under examples/ in the sources.
+/* An example in C and C++: a block of one event, for which FADC250_BLOCK_WORDS(1) words are enough. The settings that
+   it does not name stay 0, since they are static. The sources have whole programs under examples/.
 
-uint64_t one_block(uint32_t words[FADC250_BLOCK_WORDS(1)])
+uint64_t one_block(uint32_t *words, size_t w)
 {
-    static const uint16_t window[16] = {10, 11, 12, 11, 10, 40, 120, 200, 180, 90, 60, 30, 12, 11, 10, 11};
+    static const uint16_t window[16] = {
+        10, 11, 12, 11, 10, 40, 120, 200,
+        180, 90, 60, 30, 12, 11, 10, 11};
     static uint16_t store[FADC250_STORE(16)];
     static struct fadc250_settings named;
     uint64_t settings[FADC250_SETTINGS], state[FADC250_STATE];
+    const size_t n = FADC250_SETTINGS, m = FADC250_STATE;
+    const size_t s = FADC250_STORE(16);
 
     named.mode = 7;
     named.nw = 16;
@@ -397,16 +402,18 @@ uint64_t one_block(uint32_t words[FADC250_BLOCK_WORDS(1)])
     named.thresholds[3] = 100;
     fadc250_put_settings(&named, settings);
 
-    uint64_t refusal = fadc250_set_up(settings, FADC250_SETTINGS, state, FADC250_STATE);
+    uint64_t refusal = fadc250_set_up(settings, n, state, m);
     if (refusal == 0)
-        refusal = fadc250_open_block(state, FADC250_STATE, words, FADC250_BLOCK_WORDS(1), 1, 1);
+        refusal = fadc250_open_block(state, m, words, w, 1, 1);
     if (refusal == 0)
-        refusal = fadc250_open_event(state, FADC250_STATE, 9, 256);
+        refusal = fadc250_open_event(state, m, 9, 256);
     if (refusal == 0)
-        refusal = fadc250_post(state, FADC250_STATE, store, FADC250_STORE(16), 3, window, 16);
+        refusal = fadc250_post(state, m, store, s, 3, window, 16);
     if (refusal == 0)
-        refusal = fadc250_close(state, FADC250_STATE, store, FADC250_STORE(16), words, FADC250_BLOCK_WORDS(1));
-    return refusal == 0 ? fadc250_finish(state, FADC250_STATE, words, FADC250_BLOCK_WORDS(1)) : refusal << 32;
+        refusal = fadc250_close(state, m, store, s, words, w);
+    if (refusal == 0)
+        return fadc250_finish(state, m, words, w);
+    return refusal << 32;
 } */
 
 #ifdef __cplusplus
