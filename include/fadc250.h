@@ -143,7 +143,7 @@ enum fadc250_setting {
 };
 
 /* Writes the named settings as FADC250_SETTINGS numbers. */
-static inline void fadc250_put_settings(const struct fadc250_settings *named, uint64_t *settings)
+static inline void fadc250_put_settings(const struct fadc250_settings *named, uint64_t settings[FADC250_SETTINGS])
 {
     settings[FADC250_MODE] = named->mode;
     settings[FADC250_NW] = named->nw;
