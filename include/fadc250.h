@@ -356,9 +356,10 @@ enum fadc250_field {
    FADC250_RECORD stays.
 
    Accepted, it fills in the record, moves the scan behind it and answers how many words of the block were read so far,
-   less than 2^32. A raw item is read with all its pairs, a time with its second word, fillers together. At the block's
-   end the kind is FADC250_KIND_END, the scan stays, and the answer is the block's length, as fadc250_check gives it;
-   the next block starts at words + that number, with a scan of zeros.
+   less than 2^32. A raw item is read with all its pairs, and refused if one of them is. A time is read with its second
+   word, and fillers together, up to a word that is refused: that is for the next call. At the block's end the kind is
+   FADC250_KIND_END, the scan stays, and the answer is the block's length, as fadc250_check gives it; the next block
+   starts at words + that number, with a scan of zeros.
 
    Refused, it answers (refusal << 32) + place, as fadc250_check does for the same block: 11 to 15. Then the scan
    stays, and the record is filled with zeros. (64 << 32) if the numbers are no scan (not FADC250_SCAN, a stage over 8,

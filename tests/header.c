@@ -160,6 +160,24 @@ static void nothing_else(void)
     expect("zeros", record[0] + record[FADC250_RECORD - 1], 0);
 }
 
+/* A count is answered with and without room; a module empty is a block of one word. */
+static void counts(void)
+{
+    const uint8_t empty[4] = {0xF0, 0, 0, 0};
+    const uint32_t pairs[2] = {0x000A0014, 0x001E2000};
+    uint16_t samples[4] = {0, 0, 0, 9};
+    uint8_t text[8];
+    expect("module empty", fadc250_check(empty, 4), 1);
+    expect("characters", fadc250_list(empty, 4, NULL, 0), 8);
+    expect("list", fadc250_list(empty, 4, text, 8), 8);
+    expect("its line", (uint64_t)memcmp(text, "empty\t0\n", 8), 0);
+    expect("samples", fadc250_samples(pairs, 2, 0, 2, NULL, 0), 3);
+    expect("and written", fadc250_samples(pairs, 2, 0, 2, samples, 4), 3);
+    expect("the last", samples[2], 30);
+    expect("behind it", samples[3], 9);
+    expect("pairs past the words", fadc250_samples(pairs, 2, 1, 2, samples, 4), 0);
+}
+
 /* From the event that is now open and posted: back to a copy, and on without posts. */
 static void give_up(void)
 {
@@ -182,7 +200,6 @@ static void give_up(void)
 
 int main(void)
 {
-    const uint8_t empty[4] = {0xF0, 0, 0, 0};
     texts();
     sizes();
     named_settings();
@@ -192,6 +209,6 @@ int main(void)
     nothing_else();
     give_up();
     expect("the example", one_block(words, ROOM), 6);
-    expect("module empty", fadc250_check(empty, 4), 1);
+    counts();
     return wrong;
 }
