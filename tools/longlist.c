@@ -1,5 +1,5 @@
-/* Lists standard input, the bytes of blocks, as the lister does, but of any length: `./list --long FILE`. It goes block by
-   block, so that only one block's text is kept. */
+/* Lists standard input, the bytes of blocks, as the lister does, but of any length: `./list --long FILE`. It goes block
+   by block, so that only one block's text is kept. */
 #include "fadc250.h"
 #include <errno.h>
 #include <stdio.h>
@@ -20,7 +20,7 @@ static int failed(const char *what)
     return 0;
 }
 
-/* Makes room for n bytes, or for twice as many as before: many small steps would copy a long input again and again. */
+/* Makes room for n bytes, or for twice as many as before: small steps would copy a long input again and again. */
 static int grow(struct bytes *bytes, size_t n)
 {
     size_t room = n > 2 * bytes->room ? n : 2 * bytes->room;

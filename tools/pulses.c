@@ -1,5 +1,5 @@
-/* Writes one block of made-up tube pulses to standard output, the same at every run: pulses MODE NW EVENTS. It is to try
-   the lister and the picture with; samples/scope.bin is `pulses 8 100 2`. */
+/* Writes one block of made-up tube pulses to standard output, the same at every run: pulses MODE NW EVENTS. It is to
+   try the lister and the picture with; samples/scope.bin is `pulses 8 100 2`. */
 #include "fadc250.h"
 #include <stdio.h>
 #include <stdlib.h>
@@ -29,7 +29,7 @@ static void quiet(uint32_t *window, size_t nw)
         window[i] = pedestal + any(12) + any(12) + any(12);
 }
 
-/* Adds a pulse, begun so many quarters of a sample before the sample from: up in four samples, down by an eighth in each. */
+/* Adds a pulse that began so many quarters of a sample before from: up in four samples, down by an eighth in each. */
 static void pulse(uint32_t *window, size_t nw, size_t from, size_t quarters, uint32_t height)
 {
     static const uint32_t rise[] = {0, 0, 1, 1, 2, 3, 5, 7, 9, 11, 13, 14, 15, 16, 16, 16};
