@@ -82,7 +82,7 @@ found-most m n found h r =
     let few : length (listed found) * pulseMost m ≤ 3 * pulseMost m = mul-le-mul-right (pulseMost m) (rw (length-listed found (r .stored)) (r .few)) in
     omega (arith, few, pulses-most m n (listed found) h (r .each), pulse-all m)
 
--- "a channel is at most 753 words"
+-- a channel is at most 753 words
 pub channel-most : (s : Settings) (t : ℕ) (w : List ℕ) → searchable (length w) (s .nsa) (s .limit) ≡ true → channelLength (commonOf s) t w ≤ mostChannel
 unfolding channelLength
 channel-most s t w ok =

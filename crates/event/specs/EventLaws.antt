@@ -134,7 +134,7 @@ pub channels-most : (s : Settings) (posted : List Bool) (store : List ℕ) → s
     → length (channelsItems s store 0 posted) ≤ channels * mostChannel
 channels-most s posted store ok h = omega (arith, length-channels s store 0 posted ok, mul-le-mul-right mostChannel h)
 
--- "an event at most 12,051" words, and at least its header and time words
+-- an event is at most 12,051 words, and at least its header and time words
 pub event-most : (s : Settings) (posted : List Bool) (store : List ℕ) → settingsOk s ≡ true → length posted ≤ channels → eventLength s posted store ≤ mostEvent
 unfolding eventLength
 event-most s posted store ok h = omega (arith, event-is, channels-most s posted store ok h, settings-in-range s ok .times)

@@ -1,4 +1,4 @@
--- Demand 2: "a block that breaks the layout is refused": what the reader takes as a whole block is one of the layout. Assumes nothing.
+-- Demand 2: "A block that breaks the layout is refused": what the reader takes as a whole block is one of the layout. Assumes nothing.
 use Prim.Native.Nat.{ℕ, _+_, _-_, _^_, _<_}
 use mathlib.Core.Path.{_≡_, refl, sym, ap, _∙_, subst}
 use mathlib.Core.Bool.{Bool, true, false, cond, not}

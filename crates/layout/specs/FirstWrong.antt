@@ -1,4 +1,4 @@
--- Demand 2: "a block that breaks the layout is refused at its first wrong word": a refusal at place p depends on the words up to p alone, and the
+-- Demand 2: "A block that breaks the layout is refused at its first wrong word": a refusal at place p depends on the words up to p alone, and the
 -- records before it are those of the words before p (which word that is, `WrongLaws` says). Assumes nothing.
 use Prim.Native.Nat.{ℕ, zero, suc, _+_, _-_, _^_, _≤_, _<_}
 use mathlib.Core.Path.{_≡_, refl, sym, ap, _∙_}

@@ -1,4 +1,4 @@
--- Demand 2: "reading back a block .. gives every field as written". Records that stand as the layout asks are read back as they were written.
+-- Demand 2: "Reading a block .. gives back every field as written". Records that stand as the layout asks are read back as they were written.
 -- Assumes nothing.
 use Prim.Native.Nat.{ℕ}
 use mathlib.Core.Path.{_≡_, refl, ap, _∙_}

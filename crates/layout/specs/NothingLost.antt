@@ -1,4 +1,4 @@
--- Demand 2: "reading back .. gives every field as written", the other way round: whatever the reader took, built again, are the words that were
+-- Demand 2: "Reading a block .. gives back every field as written", the other way round: whatever the reader took, built again, are the words that were
 -- there, undefined bits of types 14 and 15 as zero. Assumes nothing.
 use Prim.Native.Nat.{ℕ, _^_, _<_}
 use mathlib.Core.Path.{_≡_, refl, sym, ap, _∙_}
@@ -75,7 +75,7 @@ took s w f u l a =
     word-back f w l (meaning-is s w (a .form)) (not-false _ (or-none (not (fixedIn f w)) (itemWrong s (itemFrom f w)) (a .off .1 .1 .1 .0) .0))
     ∙ ap (λ (g : Form). cleanOf g w) (sym (form-back f w))
 
--- "no two blocks read alike": the records before a run's end are spelt by the words read
+-- no two blocks read alike: the records before a run's end are spelt by the words read
 pub nothing-lost : (s : Scan) (ws : List ℕ) → AllWords ws → Spell ((readFrom s ws) .items) ws
 unfolding readFrom judgeAt
 nothing-lost s [] a = tt

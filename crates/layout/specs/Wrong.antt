@@ -1,4 +1,4 @@
--- Demand 2: "a block that breaks the layout is refused at its first wrong word": what is asked at a word and at the input's end, which words stand where
+-- Demand 2: "A block that breaks the layout is refused at its first wrong word": what is asked at a word and at the input's end, which words stand where
 -- they are, and which is the first that does not. Nothing of a run is used here. Assumes nothing.
 use Prim.Native.Nat.{ℕ, suc}
 use mathlib.Core.Path.{_≡_}

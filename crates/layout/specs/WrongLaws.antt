@@ -1,4 +1,4 @@
--- Demand 2: "a block that breaks the layout is refused at its first wrong word", both ways, for a run over words. Assumes nothing.
+-- Demand 2: "A block that breaks the layout is refused at its first wrong word", both ways, for a run over words. Assumes nothing.
 use Prim.Native.Nat.{ℕ, suc}
 use mathlib.Core.Path.{_≡_, refl, sym, ap, _∙_, subst}
 use mathlib.Core.Bool.{Bool, true, false, cond, true≢false}

@@ -17,7 +17,7 @@ use Rattle.state.specs.State.{blockOk, eventOk, stateOk, isIdle, isBlock, isEve
 
 -- ---- set up
 
--- "1: a setting out of range"
+-- 1: "a setting out of range"
 unfoldable pub setUpNumber : Settings → ℕ
 setUpNumber s = firstOf ((1, not (settingsOk s)) ∷ [])
 

@@ -32,7 +32,7 @@ moreIn s = moreBy (s .stage)
 
 -- ---- a defining word
 
--- "One block: header, ..", "Type 14 in place of a header answers module empty."
+-- "One block: header, ..", "Type 14 in place of a header answers"
 abbrev pub opening : List Form
 opening = F.Block ∷ F.Empty ∷ []
 
