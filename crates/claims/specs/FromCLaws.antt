@@ -13,7 +13,7 @@ use Rattle.ground.specs.TestsLaws.{and-left, and-right, numbered}
 use Rattle.refusals.specs.declared.Refusal.{Refusal}
 use Rattle.refusals.specs.declared.Refusal.the-variants as F
 use Rattle.settings.specs.Ranges.{settingsOk}
-use Rattle.refusals.specs.Refusal.{numberOf}
+use Rattle.refusals.specs.Refusal.{numberOf, badArray}
 use Rattle.finder.specs.Find.{packed}
 use Rattle.find.specs.Call.{findTable, findNumber, foundPulses}
 use Rattle.find.specs.RulesLaws.{find-says}
@@ -24,8 +24,8 @@ use Rattle.writer.specs.Calls.{ifAccepted, OpenBlockSays, OpenEventSays, PostSa
 use Rattle.refusing.specs.Tables.{setUpNumber, openBlockTable, openBlockNumber, openEventTable, openEventNumber, postTable, postNumber, closeTable, closeNumber, finishTable, finishNumber}
 use Rattle.block.specs.Block.{endItems}
 use Rattle.writer.specs.CallsLaws.{done, refused}
-use Rattle.numbers.specs.Numbers.{heldIn, isSettings, isState, settingsFrom, table, marksFrom, stateFrom, numbersOf}
-use Rattle.host.specs.Face.{onState, onSettings, orElse, blockOpened, posted, eventClosed, finishOn, inHigh, foundNumbers, SetUpFace, OpenBlockFace, OpenEventFace, PostFace, CloseFace, FinishFace, FindFace}
+use Rattle.numbers.specs.Numbers.{stateCount, heldIn, isSettings, isState, settingsFrom, table, marksFrom, stateFrom, numbersOf}
+use Rattle.host.specs.Face.{onState, onSettings, orElse, blockOpened, posted, eventClosed, finishOn, inHigh, foundCount, foundNumbers, SetUpFace, OpenBlockFace, OpenEventFace, PostFace, CloseFace, FinishFace, FindFace}
 use Rattle.host.specs.FaceLaws.{none-later}
 use Rattle.host.specs.FoundLaws.{found-or-zeros}
 use Rattle.numbers.specs.BackLaws.{Loads, numbers-back}
@@ -98,20 +98,20 @@ setting m rows more h = go (isSettings m)
     go false = refl
 
 pub c-set-up-exactly : (m n : List ℕ) (r : ℕ) (n′ : List ℕ) → SetUpFace m n r n′
-    → Exactly ((1, not (isSettings m)) ∷ (1, not (settingsOk (settingsFrom m))) ∷ (64, not (eqb (length n) 34)) ∷ []) r
+    → Exactly ((1, not (isSettings m)) ∷ (1, not (settingsOk (settingsFrom m))) ∷ (badArray, not (eqb (length n) stateCount)) ∷ []) r
 unfolding setUpNumber firstOf
 c-set-up-exactly m n r n′ f =
-    exactly _ (f .number ∙ (ap (orElse (onSettings m (setUpNumber (settingsFrom m)))) (go (eqb (length n) 34))
-    ∙ setting m ((1, not (settingsOk (settingsFrom m))) ∷ []) ((64, not (eqb (length n) 34)) ∷ []) refl))
+    exactly _ (f .number ∙ (ap (orElse (onSettings m (setUpNumber (settingsFrom m)))) (go (eqb (length n) stateCount))
+    ∙ setting m ((1, not (settingsOk (settingsFrom m))) ∷ []) ((badArray, not (eqb (length n) stateCount)) ∷ []) refl))
   where
-    go : (b : Bool) → cond {A = ℕ} b 0 64 ≡ cond (not b) 64 0
+    go : (b : Bool) → cond {A = ℕ} b 0 badArray ≡ cond (not b) badArray 0
     go true = refl
     go false = refl
 
 pub c-find-exactly : (m : List ℕ) (c : ℕ) (w out : List ℕ) (r : ℕ) (out′ : List ℕ) → FindFace m c w out r out′
-    → Exactly ((1, not (isSettings m)) ∷ (findTable (settingsFrom m) c w ++ ((64, ltb (length out) 28) ∷ []))) r
+    → Exactly ((1, not (isSettings m)) ∷ (findTable (settingsFrom m) c w ++ ((badArray, ltb (length out) foundCount) ∷ []))) r
 unfolding findNumber findTable firstOf
-c-find-exactly m c w out r out′ f = exactly _ (f .number ∙ setting m (findTable (settingsFrom m) c w) ((64, ltb (length out) 28) ∷ []) refl)
+c-find-exactly m c w out r out′ f = exactly _ (f .number ∙ setting m (findTable (settingsFrom m) c w) ((badArray, ltb (length out) foundCount) ∷ []) refl)
 
 -- "10" for numbers that are no state
 pub no-state : (n : List ℕ) (rows : List (ℕ × Bool)) (r : ℕ) → isState n ≡ false → Exactly ((10, not (isState n)) ∷ rows) r → r ≡ 10
@@ -150,24 +150,24 @@ c-finish-refused n words r n′ words′ f l = let ne = over n words r n′ word
 
 -- ---- nothing old is left
 
--- a refused set up leaves 34 zeros; numbers that are not 34 stay
-pub c-set-up-refused : (m n : List ℕ) (r : ℕ) (n′ : List ℕ) → SetUpFace m n r n′ → (r ≡ 0 → ⊥) → n′ ≡ cond (eqb (length n) 34) (replicate 34 0) n
-c-set-up-refused m n r n′ f ne = f .numbers ∙ ap (λ (l : List ℕ). cond (eqb (length n) 34) l n) (refused r (numbersOf (idle (settingsFrom m))) _ ne)
+-- a refused set up leaves as many zeros as a state has; an array of another length stays
+pub c-set-up-refused : (m n : List ℕ) (r : ℕ) (n′ : List ℕ) → SetUpFace m n r n′ → (r ≡ 0 → ⊥) → n′ ≡ cond (eqb (length n) stateCount) (replicate stateCount 0) n
+c-set-up-refused m n r n′ f ne = f .numbers ∙ ap (λ (l : List ℕ). cond (eqb (length n) stateCount) l n) (refused r (numbersOf (idle (settingsFrom m))) _ ne)
 
 -- which are the numbers of a state, but of one whose mode, 0, is none
-zeros-state : isState (replicate 34 0) ≡ true
+zeros-state : isState (replicate stateCount 0) ≡ true
 unfolding isState isSettings heldIn
 zeros-state = refl
 
-zeros-out : stateOk (stateFrom (replicate 34 0)) ≡ false
+zeros-out : stateOk (stateFrom (replicate stateCount 0)) ≡ false
 unfolding Rattle.state.specs.State.allOpen stateFrom settingsFrom marksFrom table
 zeros-out = refl
 
-zeros-ten : (rows : List (ℕ × Bool)) → onState (replicate 34 0) (firstOf ((10, not (stateOk (stateFrom (replicate 34 0)))) ∷ rows)) ≡ 10
+zeros-ten : (rows : List (ℕ × Bool)) → onState (replicate stateCount 0) (firstOf ((10, not (stateOk (stateFrom (replicate stateCount 0)))) ∷ rows)) ≡ 10
 unfolding firstOf
 zeros-ten rows = rw (zeros-state, zeros-out)
 
-pub zeros-taken-by-none : TakenByNone (replicate 34 0)
+pub zeros-taken-by-none : TakenByNone (replicate stateCount 0)
 unfolding openBlockNumber openBlockTable openEventNumber openEventTable postNumber postTable closeNumber closeTable finishNumber finishTable
 zeros-taken-by-none =
     record {
@@ -182,18 +182,18 @@ zeros-taken-by-none =
     in-high k size e = rw e
 
 -- a refused set up leaves no state that a call takes
-pub c-set-up-leaves-none : (m n : List ℕ) (r : ℕ) (n′ : List ℕ) → SetUpFace m n r n′ → (r ≡ 0 → ⊥) → length n ≡ 34 → TakenByNone n′
-c-set-up-leaves-none m n r n′ f ne l = rw (c-set-up-refused m n r n′ f ne, eq-eqb (length n) 34 l) zeros-taken-by-none
+pub c-set-up-leaves-none : (m n : List ℕ) (r : ℕ) (n′ : List ℕ) → SetUpFace m n r n′ → (r ≡ 0 → ⊥) → length n ≡ stateCount → TakenByNone n′
+c-set-up-leaves-none m n r n′ f ne l = rw (c-set-up-refused m n r n′ f ne, eq-eqb (length n) stateCount l) zeros-taken-by-none
 
--- a refused find leaves 28 zeros, and what is past them; fewer than 28 stay
+-- a refused find leaves zeros, no pulses, and what is past them; an array that is too short stays
 pub c-find-refused : (m : List ℕ) (c : ℕ) (w out : List ℕ) (r : ℕ) (out′ : List ℕ) → FindFace m c w out r out′ → (r ≡ 0 → ⊥)
-    → out′ ≡ cond (ltb (length out) 28) out (splice out 0 (replicate 28 0))
-c-find-refused m c w out r out′ f ne = f .numbers ∙ ap (λ (l : List ℕ). cond (ltb (length out) 28) out (splice out 0 l)) (refused r _ _ ne)
+    → out′ ≡ cond (ltb (length out) foundCount) out (splice out 0 (replicate foundCount 0))
+c-find-refused m c w out r out′ f ne = f .numbers ∙ ap (λ (l : List ℕ). cond (ltb (length out) foundCount) out (splice out 0 l)) (refused r _ _ ne)
 
 -- so that it tells of no pulse: the count is 0
-pub c-find-tells-none : (m : List ℕ) (c : ℕ) (w out : List ℕ) (r : ℕ) (out′ : List ℕ) → FindFace m c w out r out′ → (r ≡ 0 → ⊥) → 28 ≤ length out → getD out′ 0 0 ≡ 0
+pub c-find-tells-none : (m : List ℕ) (c : ℕ) (w out : List ℕ) (r : ℕ) (out′ : List ℕ) → FindFace m c w out r out′ → (r ≡ 0 → ⊥) → foundCount ≤ length out → getD out′ 0 0 ≡ 0
 unfolding splice
-c-find-tells-none m c w out r out′ f ne l = rw (c-find-refused m c w out r out′ f ne, le-ltb (length out) 28 l)
+c-find-tells-none m c w out r out′ f ne l = rw (c-find-refused m c w out r out′ f ne, le-ltb (length out) foundCount l)
 
 -- ---- a C call on a state is the library's call
 
@@ -310,14 +310,14 @@ finish-call n words r n′ words′ e f =
     twice true size other = refl
     twice false size other = refl
 
--- a set up with the numbers of settings, into 34 numbers
-pub set-up-call : (m n : List ℕ) (r : ℕ) (n′ : List ℕ) → isSettings m ≡ true → length n ≡ 34 → SetUpFace m n r n′ → SetUpCall m r n′
+-- a set up with the numbers of settings, into as many numbers as a state has
+pub set-up-call : (m n : List ℕ) (r : ℕ) (n′ : List ℕ) → isSettings m ≡ true → length n ≡ stateCount → SetUpFace m n r n′ → SetUpCall m r n′
 unfolding setUpNumber
 set-up-call m n r n′ e l f =
     let rows : List (ℕ × Bool) = (1, not (settingsOk (settingsFrom m))) ∷ [] in
     let k : ℕ = firstOf rows in
     let same : r ≡ k =
-    f .number ∙ (ap₂ (λ (a b : Bool). orElse (cond a k 1) (cond b 0 64)) e (eq-eqb (length n) 34 l) ∙ none-later k) in
+    f .number ∙ (ap₂ (λ (a b : Bool). orElse (cond a k 1) (cond b 0 badArray)) e (eq-eqb (length n) stateCount l) ∙ none-later k) in
     record {
       answer = record { refusal = refusalIn rows; state = ifAccepted k (idle (settingsFrom m)) blank };
       said = record { refusal = number-in rows refl; state = refl };
@@ -325,18 +325,18 @@ set-up-call m n r n′ e l f =
       state = λ z. subst (Loads n′) (sym (done _ _ (sym same ∙ z))) (set-up-loads m n n′ (subst (λ (i : ℕ). SetUpFace m n i n′) z f));
     }
 
--- the finder with the numbers of settings, and room for 28
-pub find-call : (m : List ℕ) (c : ℕ) (w out : List ℕ) (r : ℕ) (out′ : List ℕ) → isSettings m ≡ true → 28 ≤ length out → FindFace m c w out r out′ → FindCall m c w out r out′
+-- the finder with the numbers of settings, and room for what it tells
+pub find-call : (m : List ℕ) (c : ℕ) (w out : List ℕ) (r : ℕ) (out′ : List ℕ) → isSettings m ≡ true → foundCount ≤ length out → FindFace m c w out r out′ → FindCall m c w out r out′
 unfolding findNumber findTable
 find-call m c w out r out′ e l f =
     let s = settingsFrom m in
     let rows = findTable s c w in
     let k : ℕ = firstOf rows in
     let numbers = foundNumbers (packed (foundPulses s c w)) in
-    let same : r ≡ k = f .number ∙ (ap₂ (λ (a b : Bool). orElse (cond a k 1) (cond b 64 0)) e (le-ltb (length out) 28 l) ∙ none-later k) in
+    let same : r ≡ k = f .number ∙ (ap₂ (λ (a b : Bool). orElse (cond a k 1) (cond b badArray 0)) e (le-ltb (length out) foundCount l) ∙ none-later k) in
     record {
       answer = record { refusal = refusalIn rows; found = packed (foundPulses s c w) };
       said = find-says s c w (number-in rows refl) refl;
       number = number-in rows refl ∙ sym same;
-      found = f .numbers ∙ rw (le-ltb (length out) 28 l) (ap (splice out 0) (ap (λ (i : ℕ). ifAccepted i numbers (replicate 28 0)) same ∙ found-or-zeros s c w));
+      found = f .numbers ∙ rw (le-ltb (length out) foundCount l) (ap (splice out 0) (ap (λ (i : ℕ). ifAccepted i numbers (replicate foundCount 0)) same ∙ found-or-zeros s c w));
     }
