@@ -219,7 +219,8 @@ enum fadc250_pulse {
     FADC250_PULSE_FINE = 5,   /* and 64ths of one */
     FADC250_PULSE_VMIN = 6,   /* the pedestal: the mean of the window's first four samples, rounded down; 0 by rule 1;
                                  its word holds at most 511 */
-    FADC250_PULSE_VPEAK = 7,  /* the peak: the sample behind TC after which the next one falls; 0 if the time is TC */
+    FADC250_PULSE_VPEAK = 7,  /* the peak: from TC on the first sample with a lower one behind it;
+                                 0 if the time is only TC */
     FADC250_PULSE_RULE = 8,   /* which rule gave the time: 4 it is interpolated on the rising edge. It is only TC:
                                  1 NW is under 4 or one of the first four samples is over, 2 TC is among the last
                                  five samples, 3 no sample behind TC falls */
@@ -365,7 +366,8 @@ enum fadc250_field {
    stays, and the record is filled with zeros. (64 << 32) if the numbers are no scan (not FADC250_SCAN, a stage over 8,
    a second number over 1), and, after all others, if r is less than FADC250_RECORD: such a record stays as it is.
 
-   FADC250_KIND_TIME_HIGH and FADC250_KIND_PAIR come only to a scan that the host made itself. */
+   FADC250_KIND_TIME_HIGH and FADC250_KIND_PAIR come only to a scan that the host made itself, or if the words are not
+   those that the scan was read from: lend all words of a block from the first call on. */
 uint64_t fadc250_next(uint32_t *scan, size_t k, const uint32_t *words, size_t w, uint64_t *record, size_t r);
 
 /* The samples of a raw item: place and pairs are the record's FADC250_FIELD_PLACE and FADC250_FIELD_PAIRS, the w words
