@@ -6,13 +6,22 @@ use crate::refusal::Refusal;
 /// 16: "lister also over 65,536 bytes"
 pub const MOST_BYTES: usize = 65_536;
 
-/// The text: one line an item, fields parted by one tab.  "Blocks follow each
-/// other to the end of input; no input prints nothing."
+/// "Refusal 16 prints its line alone."
+const BAD_BYTES: Refused = Refused { refusal: Refusal::Bytes, place: 0 };
+
+/// What the lister prints.
 pub fn list(bytes: &[u8]) -> String {
-    let words = (bytes.len() <= MOST_BYTES).then(|| words_of_bytes(bytes)).flatten();
-    let Some(words) = words else {
-        // "Refusal 16 prints its line alone."
-        return refused_line(Refused { refusal: Refusal::Bytes, place: 0 });
+    if bytes.len() > MOST_BYTES {
+        return refused_line(BAD_BYTES);
+    }
+    text(bytes)
+}
+
+/// The text of an input of any length: one line an item, fields parted by one
+/// tab.  "Blocks follow each other to the end of input; no input prints nothing."
+pub fn text(bytes: &[u8]) -> String {
+    let Some(words) = words_of_bytes(bytes) else {
+        return refused_line(BAD_BYTES);
     };
     let mut text = String::new();
     let mut rest = words.as_slice();

@@ -368,3 +368,13 @@ pub fn clock(low: u32, high: u32) -> u64 {
 pub fn raw_part(words: &[u32], place: usize, pairs: usize) -> &[u32] {
     place.checked_add(pairs).and_then(|end| words.get(place..end)).unwrap_or(&[])
 }
+
+/// The samples of words of pairs, with all 13 bits; one that is flagged not
+/// valid is left out.
+pub fn samples(pairs: &[u32]) -> Vec<u16> {
+    let both = |&word: &u32| {
+        let valid = |flag, sample| (take(word, flag, flag) == 0).then_some(sample as u16);
+        [valid(29, take(word, 28, 16)), valid(13, take(word, 12, 0))]
+    };
+    pairs.iter().flat_map(both).flatten().collect()
+}
