@@ -2,11 +2,15 @@
 //! number alone, so the line that it prints is enough to make it again.
 
 mod finder;
+mod limit;
 mod reader;
+mod record;
 mod sequence;
 
 pub use finder::FinderCase;
-pub use reader::{every_cut, every_flip, limit_cases, ReaderCase};
+pub use limit::{limit_case, LIMIT_CASES};
+pub use reader::{every_cut, every_flip, ReaderCase};
+pub use record::{SamplesCase, ScanCase};
 pub use sequence::{Bench, SequenceCase, Step};
 
 use crate::calls;
