@@ -24,8 +24,7 @@ fn with_state<T>(
     numbers: &mut [u64],
     call: impl FnOnce(&mut State) -> Result<T, Refusal>,
 ) -> Result<T, Refusal> {
-    // "A state of another length, or with a number that its field cannot hold,
-    // is 10"
+    // 10: "not FADC250_STATE numbers, one that its field cannot hold"
     let mut state = State::decode(numbers).ok_or(Refusal::State)?;
     let value = call(&mut state)?;
     numbers.copy_from_slice(&state.encode());

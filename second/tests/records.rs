@@ -261,18 +261,17 @@ fn scans_of_the_host() {
     assert_eq!((answer, scan, record), (1, [1, 5, 0, 6, 1, 1], [9, 5, 6, 0, 0, 0]));
     assert_eq!(call(&words, scan), (2, [2, 5, 0, 5, 0, 0], [9, 7, 0, 0, 1, 0]));
     assert_eq!(call(&words, [1, 5, 0, 7, 9, 1]), (2, [2, 5, 0, 7, 0, 1], [9, 7, 0, 0, 1, 0]));
-    // Any numbers are answered.
-    let ends = [0, 1, 2, 5, 250, 4_194_303, u32::MAX];
-    for stage in 0..=8 {
-        for place in ends {
-            for first in ends {
-                for second in [0, 1] {
-                    let scan = [place, first, first, stage, first, second];
-                    let (answer, behind, _) = call(&RUN_A, scan);
-                    assert!(answer >> 32 <= 16 && (answer >> 32 == 0 || behind == scan));
-                }
-            }
-        }
+}
+
+#[test]
+fn any_scan_is_answered() {
+    let edges = [0, 1, 2, 5, 250, 4_194_303, u32::MAX];
+    for number in 0..9 * 7 * 7 * 2 {
+        let (place, first) = (edges[number / 18 % 7], edges[number / 126]);
+        let scan = [place, first, first, number as u32 % 9, first, number as u32 / 9 % 2];
+        let (answer, behind, _) = call(&RUN_A, scan);
+        assert!(answer >> 32 <= 16);
+        assert!(answer >> 32 == 0 || behind == scan);
     }
 }
 
