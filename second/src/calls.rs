@@ -4,8 +4,9 @@
 //! up, find and next were to fill: that is zeros then.
 
 use crate::finder::{self, Pulse};
+use crate::items::{self, Item};
 use crate::lister;
-use crate::reader;
+use crate::reader::{self, Refused, Scan};
 use crate::refusal::Refusal;
 use crate::settings::Settings;
 use crate::writer::{self, State};
@@ -23,8 +24,7 @@ fn with_state<T>(
     numbers: &mut [u64],
     call: impl FnOnce(&mut State) -> Result<T, Refusal>,
 ) -> Result<T, Refusal> {
-    // "A state of another length, or with a number that its field cannot hold,
-    // is 10"
+    // 10: "not FADC250_STATE numbers, one that its field cannot hold"
     let mut state = State::decode(numbers).ok_or(Refusal::State)?;
     let value = call(&mut state)?;
     numbers.copy_from_slice(&state.encode());
@@ -33,11 +33,13 @@ fn with_state<T>(
 
 /// Fills `lent` with the numbers, or with zeros if there are none but a refusal;
 /// `None`, not as many lent as the header says, stays and is 64 after the others.
-fn fill<T: Copy + Default, const N: usize>(
+fn fill<T: Copy + Default, const N: usize, E: Copy + From<Refusal>>(
     lent: Option<&mut [T]>,
-    numbers: Result<[T; N], Refusal>,
-) -> Result<(), Refusal> {
-    let Some(lent) = lent else { return Err(numbers.err().unwrap_or(Refusal::Array)) };
+    numbers: Result<[T; N], E>,
+) -> Result<(), E> {
+    let Some(lent) = lent else {
+        return numbers.and(Err(Refusal::Array.into()));
+    };
     lent.copy_from_slice(&numbers.unwrap_or([T::default(); N]));
     numbers.map(|_| ())
 }
@@ -99,15 +101,26 @@ pub fn check(bytes: &[u8]) -> u64 {
     reader::check(bytes)
 }
 
-/// Refusal x 2^32 + place, or the words read so far.
-pub fn next(_scan: &mut [u32], _words: &[u32], _record: &mut [u64]) -> u64 {
-    u64::from(Refusal::Array.number()) << 32
+/// Refusal x 2^32 + place, or the words read so far.  Fills the first six of
+/// `record`; fewer are 64 after the others.
+pub fn next(scan: &mut [u32], words: &[u32], record: &mut [u64]) -> u64 {
+    let from = Scan::decode(scan).ok_or(Refused::from(Refusal::Array));
+    let read = from.and_then(|from| from.item(words));
+    let numbers = read.map(|found| found.map_or(items::END, |(item, _)| item.encode()));
+    match fill(record.get_mut(..Item::NUMBERS), numbers).and(read) {
+        Ok(Some((_, behind))) => {
+            scan.copy_from_slice(&behind.encode());
+            behind.place as u64
+        }
+        Ok(None) => scan[0].into(), // at the block's end the scan stays
+        Err(refused) => refused.number(),
+    }
 }
 
 /// How many samples the pairs hold; they are written only if all of them fit.
 pub fn samples(words: &[u32], place: u32, pairs: u32, samples: &mut [u16]) -> u64 {
-    let part = reader::raw_part(words, place as usize, pairs as usize);
-    put_whole(&reader::samples(part), samples)
+    let part = items::raw_part(words, place as usize, pairs as usize);
+    put_whole(&items::samples(part), samples)
 }
 
 /// How many characters the text has; it is written only if all of it fits.
