@@ -35,6 +35,10 @@ fn ends() -> [(&'static str, bool, Vec<u32>); 16] {
 /// How many such cases there are: those, and one that ends before the place.
 pub const LIMIT_CASES: u64 = 17;
 
+pub fn limit_cases() -> impl Iterator<Item = ReaderCase> {
+    (0..LIMIT_CASES).map(limit_case)
+}
+
 /// One of them; its seed is not used.
 pub fn limit_case(number: u64) -> ReaderCase {
     let end = ends().into_iter().nth(number as usize);

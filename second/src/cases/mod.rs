@@ -8,7 +8,7 @@ mod record;
 mod sequence;
 
 pub use finder::FinderCase;
-pub use limit::{limit_case, LIMIT_CASES};
+pub use limit::{limit_case, limit_cases, LIMIT_CASES};
 pub use reader::{every_cut, every_flip, ReaderCase};
 pub use record::{SamplesCase, ScanCase};
 pub use sequence::{Bench, SequenceCase, Step};

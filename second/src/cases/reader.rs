@@ -42,7 +42,7 @@ impl fmt::Display for ReaderCase {
 }
 
 pub(super) fn bytes_of(words: &[u32]) -> Vec<u8> {
-    words.iter().flat_map(|word| word.to_be_bytes()).collect()
+    words.iter().map(|word| word.to_be_bytes()).collect::<Vec<_>>().concat()
 }
 
 /// The input cut before each of its bytes in turn, and whole.

@@ -21,9 +21,9 @@ struct Kind {
 const KINDS: [Kind; 7] = [
     Kind { name: "finder", count: 100_000, compare: writing::finder },
     Kind { name: "sequence", count: 3_000, compare: writing::sequence },
-    Kind { name: "reader", count: 40_000, compare: reading::reader },
+    Kind { name: "reader", count: 30_000, compare: reading::reader },
     Kind { name: "limit", count: LIMIT_CASES, compare: reading::limit },
-    Kind { name: "scan", count: 100_000, compare: reading::scan },
+    Kind { name: "scan", count: 40_000, compare: reading::scan },
     Kind { name: "samples", count: 20_000, compare: reading::part },
     Kind { name: "lister", count: 2_000, compare: reading::lister },
 ];

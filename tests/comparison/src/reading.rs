@@ -19,11 +19,12 @@ const END: u64 = 16;
 /// What stands in lent arrays before a call.
 const OLD: u8 = 0xA5;
 
-/// Each input is checked, read record by record and listed; so are all cuts and bit flips of some of
-/// the shorter ones.
+/// The input is checked, read record by record, its raw items too, and listed. All cuts and bit flips
+/// of some of the shorter ones are checked and read, and of a few listed.
 pub fn reader(run: &mut Run, seed: u64, number: u64) -> Result<(), String> {
     let case = ReaderCase::new(seed, number);
     input(run, &case, &case.bytes)?;
+    raw_items(run, &case, &case.bytes)?;
     text(run, &case, &case.bytes)?;
     if number % 32 != 0 || case.bytes.len() > 400 {
         return Ok(());
@@ -34,7 +35,7 @@ pub fn reader(run: &mut Run, seed: u64, number: u64) -> Result<(), String> {
     for (bit, flipped) in every_flip(&case.bytes).enumerate() {
         let what = format_args!("{case}, bit {bit} flipped");
         input(run, &what, &flipped)?;
-        if number % 256 == 0 {
+        if number % 512 == 0 {
             text(run, &what, &flipped)?;
         }
     }
@@ -86,29 +87,26 @@ fn read(
             &(a >> 32, a as u32, ours),
             &(b >> 32, b as u32, theirs),
         )?;
-        let [kind, .., place, pairs, _] = ours.1;
-        if matches!(kind, WINDOW | PULSE_RAW) {
-            raw(run, &what, words, place as u32, pairs as u32)?;
-        }
-        if a >> 32 != 0 || kind == END {
-            let told = format!("{what}: the last answer is {a:#x}, that of the check {checked:#x}");
-            return if a == checked { Ok(()) } else { Err(told) };
+        if a >> 32 != 0 || ours.1[0] == END {
+            let told = || format!("{what}: it answers {a:#x}, the check {checked:#x}\n");
+            return if a == checked { Ok(()) } else { Err(told()) };
         }
     }
-    Err(format!("{what}: the reading does not end"))
+    Err(format!("{what}: the reading does not end\n"))
 }
 
-/// The samples of a raw item, into room that is one short, just enough, and more.
-fn raw(
-    run: &mut Run,
-    what: &dyn Display,
-    words: &[u32],
-    place: u32,
-    pairs: u32,
-) -> Result<(), String> {
-    let most = 2 * pairs as usize; // or one fewer
-    for room in [most.saturating_sub(2), most.saturating_sub(1), most, most + 1] {
-        samples(run, what, words, (place, pairs), &vec![OLD.into(); room])?;
+/// The samples of each raw item, into room that is one or two short, just enough, and more.
+fn raw_items(run: &mut Run, what: &dyn Display, bytes: &[u8]) -> Result<(), String> {
+    let words = words_of_bytes(bytes).unwrap_or_default();
+    let (mut scan, mut record) = ([0; 6], [0; RECORD]);
+    while Library.next(&mut scan, &words, &mut record) >> 32 == 0 && record[0] != END {
+        let [kind, .., place, pairs] = record;
+        let most = 2 * pairs as usize; // or one fewer
+        let rooms = [most.saturating_sub(2), most.saturating_sub(1), most, most + 1];
+        let raw = matches!(kind, WINDOW | PULSE_RAW);
+        for room in rooms.into_iter().filter(|_| raw) {
+            samples(run, what, &words, (place as u32, pairs as u32), &vec![OLD.into(); room])?;
+        }
     }
     Ok(())
 }
@@ -142,21 +140,21 @@ pub fn part(run: &mut Run, seed: u64, number: u64) -> Result<(), String> {
     samples(run, &case, &case.words, (case.place, case.pairs), &case.samples)
 }
 
-/// The text into room that is just enough, more, one short, and none.
+/// The text into just enough room, and then into room that is one short, none, or more.
 fn text(run: &mut Run, what: &dyn Display, bytes: &[u8]) -> Result<(), String> {
-    let length = Second.list(bytes, &mut []) as usize;
-    let mut refused = None;
-    for room in [length, length + 3, length.saturating_sub(1), 0] {
-        let (mut ours, mut theirs) = (vec![OLD; room], vec![OLD; room]);
-        let (a, b) = (Library.list(bytes, &mut ours), Second.list(bytes, &mut theirs));
-        let what = format_args!("{what}, listed into {room}");
-        if ours != theirs {
-            return Err(texts_differ(&what, &ours, &theirs));
-        }
-        let answer = *refused.get_or_insert_with(|| refusal(&ours));
-        run.same(&what, Call::List, answer, &a, &b)?;
+    let mut theirs = lister::text(bytes).into_bytes();
+    let mut ours = vec![OLD; theirs.len()];
+    let a = Library.list(bytes, &mut ours);
+    if ours != theirs {
+        return Err(texts_differ(what, &ours, &theirs));
     }
-    Ok(())
+    let (answer, length) = (refusal(&ours), ours.len());
+    run.same(what, Call::List, answer, &a, &(length as u64))?;
+    let other = [length.saturating_sub(1), 0, length + 3][bytes.len() / 4 % 3];
+    (ours, theirs) = (vec![OLD; other], vec![OLD; other]);
+    let (a, b) = (Library.list(bytes, &mut ours), Second.list(bytes, &mut theirs));
+    let what = format_args!("{what}, room {other} for {length}");
+    run.same(&what, Call::List, answer, &(a, ours), &(b, theirs))
 }
 
 fn texts_differ(what: &dyn Display, ours: &[u8], theirs: &[u8]) -> String {
