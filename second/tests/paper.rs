@@ -536,11 +536,11 @@ fn refusals_11_to_15() {
 fn refusal_14_at_the_limit() {
     let answers: Vec<u64> = second::cases::limit_cases().map(|case| check(&case.bytes)).collect();
     let limit = LIMIT as u64;
-    // The longest block; any word or none at the place; what follows a trailer.
-    let mut expected = vec![limit];
-    expected.extend([refused(14, limit); 10]);
+    // The longest block and what is missing of it; any word or none at the place;
+    // what follows a trailer.
+    let mut expected = vec![limit, refused(11, limit - 1)];
+    expected.extend([refused(14, limit); 14]);
     expected.extend([limit + 1, limit + 3, refused(15, limit), refused(15, limit + 1), limit]);
-    expected.push(refused(11, limit - 1));
     assert_eq!(answers, expected);
 }
 

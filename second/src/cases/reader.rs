@@ -246,7 +246,7 @@ fn plausible(rng: &mut Rng, slot: u32) -> u32 {
 }
 
 /// The damages, by their numbers below.
-const DAMAGES: [&str; 9] = [
+const DAMAGES: [&str; 10] = [
     "bit flipped",
     "bit flipped",
     "word lost",
@@ -255,6 +255,7 @@ const DAMAGES: [&str; 9] = [
     "cut at a word",
     "word at random",
     "word replaced",
+    "word many times",
     "word put in",
 ];
 
@@ -275,6 +276,11 @@ fn damage(rng: &mut Rng, words: &mut Vec<u32>) -> &'static str {
         5 => words.truncate(place),
         6 => words[place] = rng.next() as u32,
         7 => words[place] = plausible(rng, slot),
+        8 => {
+            let times = rng.pick(&[1, 2, 3, 249, 250]);
+            let more = vec![words[place]; times];
+            words.splice(place..place, more);
+        }
         _ => words.insert(place, plausible(rng, slot)),
     }
     DAMAGES[kind]

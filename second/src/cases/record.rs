@@ -36,7 +36,7 @@ impl ScanCase {
         if rng.once_in(12) {
             scan.resize(rng.pick(&[0, 1, 5, 7, 12]), 0);
         }
-        let lent = rng.pick(&[0, 1, 5, 6, 6, 6, 7, 8]);
+        let lent = rng.pick(&[0, 4, 5, 6, 6, 6, 7, 8]);
         let record = (0..lent).map(|_| rng.next()).collect();
         ScanCase { seed, number, words, scan, record }
     }

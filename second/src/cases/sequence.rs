@@ -204,7 +204,7 @@ impl Maker {
     fn make(&mut self) {
         let (most, rarity) = match self.plan {
             Plan::Usual => (90, self.rng.pick(&[3, 8, 30])),
-            Plan::Many => (2_000, 500),
+            Plan::Many => (3_000, 500),
             Plan::Full => (90, 30),
         };
         let blocks = self.rng.between(1, 3) as u32;
@@ -284,11 +284,14 @@ impl Maker {
         let threshold = state.settings.thresholds[channel as usize];
         let nw = state.settings.nw as usize;
         let late = self.plan == Plan::Full && nw == 500 && threshold < 4_095;
-        let window = if late {
+        let mut window = if late {
             late_window(&mut self.rng, threshold)
         } else {
             window(&mut self.rng, nw, threshold)
         };
+        if self.rng.once_in(300) {
+            window[self.rng.place(nw)] = bad_sample(&mut self.rng);
+        }
         Step::Post { store: usize::MAX, channel, window }
     }
 

@@ -35,6 +35,9 @@ pub struct Run {
     /// Where the lister is.
     lister: String,
     met: Table,
+    /// The most words of an event, and the most events of a block.
+    longest_event: u64,
+    most_events: u64,
 }
 
 impl Run {
@@ -74,6 +77,9 @@ fn compare(run: &mut Run, seed: u64, times: u64) -> Result<(), String> {
             }
         }
     }
+    if run.longest_event <= 12_000 || run.most_events < 255 {
+        return Err("no event of more than 12,000 words, or no block of 255 events".to_string());
+    }
     run.met.missing()
 }
 
@@ -83,8 +89,9 @@ fn one(run: &mut Run, kind: &Kind, seed: u64, number: u64) -> Result<(), String>
         .map_err(|what| format!("{what}replay: tests/replay {name} {seed} {number}"))
 }
 
-fn said(met: &Table) -> String {
+fn said(run: &Run) -> String {
     use Call::*;
+    let met = &run.met;
     let calls = met.made(&[SetUp, OpenBlock, OpenEvent, Post, Close, Finish]);
     let [windows, inputs, records] = [Find, Check, Next].map(|call| met.made(&[call]));
     let [parts, texts, listings] = [Samples, List, Lister].map(|call| met.made(&[call]));
@@ -110,7 +117,8 @@ fn main() -> ExitCode {
     let arguments: Vec<String> = std::env::args().skip(1).collect();
     let arguments: Vec<&str> = arguments.iter().map(String::as_str).collect();
     let Some((lister, arguments)) = arguments.split_first() else { return usage() };
-    let mut run = Run { lister: lister.to_string(), met: Table::new() };
+    let mut run =
+        Run { lister: lister.to_string(), met: Table::new(), longest_event: 0, most_events: 0 };
     let result = match *arguments {
         ["--case", name, seed, number] => {
             let kind = KINDS.iter().find(|kind| kind.name == name);
@@ -125,9 +133,10 @@ fn main() -> ExitCode {
         }
     };
     print!("{}", run.met);
+    println!("longest event {} words, most events {}", run.longest_event, run.most_events);
     match result {
         Ok(seed) => {
-            println!("seed {seed}: {}", said(&run.met));
+            println!("seed {seed}: {}", said(&run));
             ExitCode::SUCCESS
         }
         Err(what) => {

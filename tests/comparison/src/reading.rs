@@ -46,8 +46,9 @@ pub fn reader(run: &mut Run, seed: u64, number: u64) -> Result<(), String> {
 pub fn limit(run: &mut Run, _: u64, number: u64) -> Result<(), String> {
     let case = limit_case(number);
     let checked = check(run, &case, &case.bytes)?;
-    let near_end = [LIMIT as u32 - 3, 5, 0, 5, 0, 0];
     let words = words_of_bytes(&case.bytes).unwrap_or_default();
+    let events = words.first().map_or(0, |header| header & 0xFF);
+    let near_end = [LIMIT as u32 - 3, 5, events - 1, 5, 0, 0];
     read(run, &case, &words, near_end, checked)
 }
 
