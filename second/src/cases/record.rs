@@ -33,6 +33,10 @@ impl ScanCase {
             let place = rng.place(6);
             scan[place] = altered(rng, place, words.len());
         }
+        // The header does not say what a window with no pairs to come is.
+        if scan[3] == 6 {
+            scan[4] = scan[4].max(1);
+        }
         if rng.once_in(12) {
             scan.resize(rng.pick(&[0, 1, 5, 7, 12]), 0);
         }

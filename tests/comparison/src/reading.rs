@@ -185,7 +185,11 @@ pub fn lister(run: &mut Run, seed: u64, number: u64) -> Result<(), String> {
 }
 
 fn listed(program: &str, bytes: &[u8]) -> std::io::Result<Vec<u8>> {
-    let mut child = Command::new(program).stdin(Stdio::piped()).stdout(Stdio::piped()).spawn()?;
+    let mut child = Command::new(program)
+        .stdin(Stdio::piped())
+        .stdout(Stdio::piped())
+        .stderr(Stdio::null())
+        .spawn()?;
     let mut input = child.stdin.take().ok_or_else(|| std::io::Error::other("no pipe"))?;
     let bytes = bytes.to_vec();
     // It reads no more than it needs, so the rest may not be taken.

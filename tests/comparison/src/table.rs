@@ -72,13 +72,14 @@ impl Table {
     }
 }
 
-/// An answer that a call cannot give is left blank.
+/// A call that was not made is left out, an answer that it cannot give is left blank.
 impl fmt::Display for Table {
     fn fmt(&self, f: &mut fmt::Formatter) -> fmt::Result {
         for (answers, rows) in PARTS {
             let head: String = answers.iter().map(|answer| format!("{answer:>8}")).collect();
             writeln!(f, "{:<10}{head}", "answer")?;
-            for ((name, can), met) in CALLS.iter().zip(&self.0).take(rows.end).skip(rows.start) {
+            let all = CALLS.iter().zip(&self.0).take(rows.end).skip(rows.start);
+            for ((name, can), met) in all.filter(|(_, met)| met.iter().sum::<u64>() > 0) {
                 let cell = |answer: &u64| match can.contains(answer) {
                     true => format!("{:>8}", met[*answer as usize]),
                     false => format!("{:>8}", ""),
