@@ -1,18 +1,28 @@
 //! The lister: the text of a byte input.
 
-use crate::reader::{clock, words_of_bytes, Block, Refused, Word};
+use crate::items::clock;
+use crate::reader::{words_of_bytes, Block, Refused, Word};
 use crate::refusal::Refusal;
 
 /// 16: "lister also over 65,536 bytes"
 pub const MOST_BYTES: usize = 65_536;
 
-/// The text: one line an item, fields parted by one tab.  "Blocks follow each
-/// other to the end of input; no input prints nothing."
+/// "Refusal 16 prints its line alone."
+const BAD_BYTES: Refused = Refused { refusal: Refusal::Bytes, place: 0 };
+
+/// What the lister prints.
 pub fn list(bytes: &[u8]) -> String {
-    let words = (bytes.len() <= MOST_BYTES).then(|| words_of_bytes(bytes)).flatten();
-    let Some(words) = words else {
-        // "Refusal 16 prints its line alone."
-        return refused_line(Refused { refusal: Refusal::Bytes, place: 0 });
+    if bytes.len() > MOST_BYTES {
+        return refused_line(BAD_BYTES);
+    }
+    text(bytes)
+}
+
+/// The text of an input of any length: one line an item, fields parted by one
+/// tab.  "Blocks follow each other to the end of input; no input prints nothing."
+pub fn text(bytes: &[u8]) -> String {
+    let Some(words) = words_of_bytes(bytes) else {
+        return refused_line(BAD_BYTES);
     };
     let mut text = String::new();
     let mut rest = words.as_slice();
@@ -48,7 +58,7 @@ fn block_lines(accepted: &[Word]) -> String {
         text += &word_line(word, accepted.get(place + 1).copied());
     }
     // "fill: how many, no line for none"
-    let fillers = accepted.iter().filter(|word| matches!(word, Word::Filler)).count();
+    let fillers = accepted.iter().filter(|word| matches!(word, Word::Filler { .. })).count();
     if fillers > 0 {
         text += &line("fill", &[fillers as u64]);
     }
@@ -62,7 +72,7 @@ fn word_line(word: Word, next: Option<Word>) -> String {
     match word {
         Word::Header { slot, number, events } => small("block", &[slot, number, events]),
         Word::Parameters { pl, nsb, nsa } => small("setup", &[pl, nsb, nsa]),
-        Word::Event { number } => small("event", &[number]),
+        Word::Event { number, .. } => small("event", &[number]),
         Word::TimeLow { bits } => match next {
             Some(Word::TimeHigh { bits: high }) => line("clock", &[clock(bits, high)]),
             _ => small("clock27", &[bits]),
@@ -80,10 +90,10 @@ fn word_line(word: Word, next: Option<Word>) -> String {
         Word::Pedestal { channel, pulse, vmin, vpeak } => {
             small("ped", &[channel, pulse, vmin, vpeak])
         }
-        Word::Trailer { words } => small("end", &[words]),
+        Word::Trailer { words, .. } => small("end", &[words]),
         Word::Empty { slot } => small("empty", &[slot]),
         // Said with the first time word, and by the count of fillers.
-        Word::TimeHigh { .. } | Word::Filler => String::new(),
+        Word::TimeHigh { .. } | Word::Filler { .. } => String::new(),
     }
 }
 

@@ -1,6 +1,8 @@
 //! The command line of the second opinion.
 
-use second::cases::{FinderCase, ReaderCase, SequenceCase, SEED};
+use second::cases::{
+    limit_case, FinderCase, ReaderCase, SamplesCase, ScanCase, SequenceCase, LIMIT_CASES, SEED,
+};
 use second::{calls, lister};
 use std::io::{self, Read, Write};
 use std::process::ExitCode;
@@ -9,8 +11,9 @@ const USAGE: &str = "\
 second list  < block            the lister's text
 second check < block            the reader's number
 second demo                     run A of document 01, from set up to finish
-second cases KIND [SEED [COUNT]]  lines of finder, sequence or reader cases
-second case KIND SEED NUMBER    one such case in full
+second cases KIND [SEED [COUNT]]  lines of cases
+second case KIND SEED NUMBER    one case in full
+KIND is finder, sequence, reader, lister, limit, scan or samples.
 ";
 
 fn main() -> ExitCode {
@@ -61,7 +64,11 @@ fn case(kind: &str, seed: u64, of: u64, full: bool) -> String {
     match kind {
         "finder" => show(FinderCase::new(seed, of), full),
         "sequence" => show(SequenceCase::new(seed, of), full),
-        "reader" => show(ReaderCase::new(seed, of), full),
+        "reader" | "lister" => show(ReaderCase::new(seed, of), full),
+        // A case of 16 MB is not shown in full.
+        "limit" if of < LIMIT_CASES => show(limit_case(of), false),
+        "scan" => show(ScanCase::new(seed, of), full),
+        "samples" => show(SamplesCase::new(seed, of), full),
         _ => String::new(),
     }
 }

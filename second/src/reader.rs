@@ -15,13 +15,27 @@ pub struct Refused {
     pub place: usize,
 }
 
+impl Refused {
+    /// "refusal x 2^32 plus the place"
+    pub fn number(self) -> u64 {
+        (u64::from(self.refusal.number()) << 32) + self.place as u64
+    }
+}
+
+/// A refusal that is about no word.
+impl From<Refusal> for Refused {
+    fn from(refusal: Refusal) -> Refused {
+        Refused { refusal, place: 0 }
+    }
+}
+
 /// One accepted word with its fields.
 #[derive(Clone, Copy, Debug, PartialEq, Eq)]
 #[rustfmt::skip]
 pub enum Word {
     Header { slot: u32, number: u32, events: u32 },
     Parameters { pl: u32, nsb: u32, nsa: u32 },
-    Event { number: u32 },
+    Event { slot: u32, number: u32 },
     /// Time bits 26-0.
     TimeLow { bits: u32 },
     /// Time bits 47-24.
@@ -33,8 +47,8 @@ pub enum Word {
     Integral { channel: u32, pulse: u32, quality: u32, sum: u32 },
     Time { channel: u32, pulse: u32, quality: u32, coarse: u32, fine: u32 },
     Pedestal { channel: u32, pulse: u32, vmin: u32, vpeak: u32 },
-    Trailer { words: u32 },
-    Filler,
+    Trailer { slot: u32, words: u32 },
+    Filler { slot: u32 },
     Empty { slot: u32 },
 }
 
@@ -50,66 +64,118 @@ enum After {
     TimeLow { shared: u32 },
     /// Second time word, or an item that is whole.
     Whole,
-    /// Type 4 with this many samples still to come, at least 1.
-    Window { samples: u32 },
-    /// Type 6 with this many pairs read, the last one flagged or not.
-    PulseRaw { pairs: u32, flagged: bool },
-    /// The trailer and this many fillers.
-    Trailer { fillers: u32 },
-    /// The block has ended, or a word was refused.
-    End,
+    /// Type 4 with this many pairs still to come, at least 1; whether the last of
+    /// them holds one sample.
+    Window { pairs: u32, odd: bool },
+    /// Type 6: how many pairs may still come, and whether one was read.
+    PulseRaw { pairs: u32, any: bool },
+    /// The trailer or a filler, and how many fillers may still come.  None come
+    /// behind a module empty.
+    Tail { fillers: u32 },
 }
 
-/// Reads one block from the front of `words`: an iterator over its accepted
-/// words, closed by a refusal if there is one.
-pub struct Block<'a> {
-    words: &'a [u32],
-    place: usize,
+/// Where the reading of a block stands: before the word at `place`.
+#[derive(Clone, Copy, Debug, PartialEq, Eq)]
+pub struct Scan {
+    pub place: usize,
+    /// The block header's; 0 before it.
+    slot: u32,
+    /// Events that are still to come.
+    left: u32,
     after: After,
-    slot: Option<u32>,
-    stated: u32,
-    events: u32,
 }
 
-impl Iterator for Block<'_> {
-    type Item = Result<Word, Refused>;
+impl Scan {
+    /// How many numbers the C side passes.
+    pub const NUMBERS: usize = 6;
 
-    fn next(&mut self) -> Option<Self::Item> {
-        let word = self.words.get(self.place).copied();
-        if self.ends_before(word) {
-            return None;
-        }
-        let judged = self.judge(word);
-        match judged {
-            Ok(word) => self.accept(word),
-            Err(_) => self.after = After::End,
-        }
-        let place = self.place;
-        self.place += usize::from(judged.is_ok());
-        Some(judged.map_err(|refusal| Refused { refusal, place }))
+    /// Before a block's first word.
+    pub const START: Scan = Scan { place: 0, slot: 0, left: 0, after: After::Nothing };
+
+    /// The scan that six numbers stand for; `None` for another count of numbers,
+    /// a stage that there is not, or a second number over 1.
+    pub fn decode(numbers: &[u32]) -> Option<Scan> {
+        let &[place, slot, left, stage, first, second] = numbers else { return None };
+        let second = match second {
+            0 => false,
+            1 => true,
+            _ => return None,
+        };
+        let after = match stage {
+            0 => After::Nothing,
+            1 => After::Header,
+            2 => After::Parameters,
+            3 => After::Event,
+            4 => After::TimeLow { shared: first },
+            5 => After::Whole,
+            6 if first == 0 => After::Whole, // no pair is to come
+            6 => After::Window { pairs: first, odd: second },
+            7 => After::PulseRaw { pairs: first, any: second },
+            8 => After::Tail { fillers: first },
+            _ => return None,
+        };
+        Some(Scan { place: place as usize, slot, left, after })
     }
-}
 
-impl<'a> Block<'a> {
-    pub fn new(words: &'a [u32]) -> Block<'a> {
-        Block { words, place: 0, after: After::Nothing, slot: None, stated: 0, events: 0 }
+    pub fn encode(&self) -> [u32; Self::NUMBERS] {
+        let (stage, first, second) = match self.after {
+            After::Nothing => (0, 0, false),
+            After::Header => (1, 0, false),
+            After::Parameters => (2, 0, false),
+            After::Event => (3, 0, false),
+            After::TimeLow { shared } => (4, shared, false),
+            After::Whole => (5, 0, false),
+            After::Window { pairs, odd } => (6, pairs, odd),
+            After::PulseRaw { pairs, any } => (7, pairs, any),
+            After::Tail { fillers } => (8, fillers, false),
+        };
+        [self.place as u32, self.slot, self.left, stage, first, second.into()]
+    }
+
+    /// The next word and the scan behind it; `None` where the block has ended.
+    pub fn step(&self, words: &[u32]) -> Result<Option<(Word, Scan)>, Refused> {
+        if self.ends_before(self.word(words)) {
+            return Ok(None);
+        }
+        self.read(words).map(Some)
+    }
+
+    /// The same where the block cannot end.
+    pub(crate) fn read(&self, words: &[u32]) -> Result<(Word, Scan), Refused> {
+        match self.judge(self.word(words)) {
+            Ok(word) => Ok((word, self.behind(word))),
+            Err(refusal) => Err(Refused { refusal, place: self.place }),
+        }
+    }
+
+    fn word(&self, words: &[u32]) -> Option<u32> {
+        words.get(self.place).copied()
+    }
+
+    /// Whether the raw item before goes on: type 6 with any continuation word
+    /// behind its first pair, allowed or not.
+    pub(crate) fn in_pairs(&self, words: &[u32]) -> bool {
+        match self.after {
+            After::Window { .. } => true,
+            After::PulseRaw { any, .. } => {
+                !any || self.word(words).is_some_and(|word| tag(word).is_none())
+            }
+            _ => false,
+        }
     }
 
     /// "It ends after the third [filler], at the input's end, or before a word
     /// that is no filler."
     fn ends_before(&self, word: Option<u32>) -> bool {
         match self.after {
-            After::End => true,
-            After::Trailer { fillers } => {
-                fillers == MOST_FILLERS || word.and_then(tag) != Some(words::FILLER)
-            }
+            After::Tail { fillers } => fillers == 0 || word.and_then(tag) != Some(words::FILLER),
             _ => false,
         }
     }
 
     /// "At each word, in this order": 14 for the limit, 11, 12, 15, 13, 14.
     fn judge(&self, word: Option<u32>) -> Result<Word, Refusal> {
-        let trailer_read = matches!(self.after, After::Trailer { .. });
+        let trailer_read = matches!(self.after, After::Tail { .. });
         if !trailer_read && self.place == LIMIT {
             return Err(Refusal::Count);
         }
@@ -144,18 +210,15 @@ impl<'a> Block<'a> {
             After::Event => tag == words::TRIGGER_TIME || item || event_or_trailer,
             After::TimeLow { .. } | After::Whole => item || event_or_trailer,
             After::Window { .. } => false,
-            After::PulseRaw { pairs, .. } => pairs > 0 && (item || event_or_trailer),
-            After::Trailer { .. } => tag == words::FILLER,
-            After::End => false,
+            After::PulseRaw { any, .. } => any && (item || event_or_trailer),
+            After::Tail { .. } => tag == words::FILLER,
         }
     }
 
     fn allows_continuation(&self) -> bool {
         match self.after {
             After::Header | After::TimeLow { .. } | After::Window { .. } => true,
-            // "In type 6 a flagged pair is the last: a pair after it is refused
-            // 12 there."
-            After::PulseRaw { pairs, flagged } => pairs < MOST_PULSE_PAIRS && !flagged,
+            After::PulseRaw { pairs, .. } => pairs > 0,
             _ => false,
         }
     }
@@ -165,7 +228,7 @@ impl<'a> Block<'a> {
     fn slot_differs(&self, word: u32) -> bool {
         let carries =
             matches!(tag(word), Some(words::TRAILER | words::EVENT_HEADER | words::FILLER));
-        carries && self.slot.is_some_and(|slot| slot != take(word, 26, 22))
+        carries && self.slot != take(word, 26, 22)
     }
 
     /// The fields of an allowed word, or `None` for 13.
@@ -177,8 +240,8 @@ impl<'a> Block<'a> {
         match tag(word) {
             None => self.continuation(word),
             Some(words::BLOCK_HEADER) => header(word),
-            Some(words::TRAILER) => Some(Word::Trailer { words: take(word, 21, 0) }),
-            Some(words::EVENT_HEADER) => Some(Word::Event { number: take(word, 21, 0) }),
+            Some(words::TRAILER) => Some(Word::Trailer { slot, words: take(word, 21, 0) }),
+            Some(words::EVENT_HEADER) => Some(Word::Event { slot, number: take(word, 21, 0) }),
             Some(words::TRIGGER_TIME) => Some(Word::TimeLow { bits: take(word, 26, 0) }),
             Some(words::WINDOW) => {
                 let width = take(word, 11, 0);
@@ -203,7 +266,7 @@ impl<'a> Block<'a> {
             }
             // "Only undefined bits of 14 and 15 are ignored."
             Some(words::EMPTY) => Some(Word::Empty { slot }),
-            Some(words::FILLER) => Some(Word::Filler),
+            Some(words::FILLER) => Some(Word::Filler { slot }),
             Some(_) => None, // never asked: such a type was refused 12
         }
     }
@@ -221,7 +284,10 @@ impl<'a> Block<'a> {
             }
             // 13: "a sample flag anywhere but bit 13 at the odd end, that flag
             // absent at type 4's odd end"
-            After::Window { samples } => pair(word, samples == 1, samples == 1),
+            After::Window { pairs, odd } => {
+                let odd_end = odd && pairs == 1;
+                pair(word, odd_end, odd_end)
+            }
             After::PulseRaw { .. } => pair(word, true, false),
             _ => None, // never asked: a continuation was refused 12
         }
@@ -231,41 +297,47 @@ impl<'a> Block<'a> {
     /// wrong trailer count".
     fn counts_agree(&self, word: Word) -> bool {
         match word {
-            Word::Event { .. } => self.events < self.stated,
-            Word::Trailer { words } => {
-                self.events == self.stated && words as usize == self.place + 1
-            }
+            Word::Event { .. } => self.left > 0,
+            Word::Trailer { words, .. } => self.left == 0 && words as usize == self.place + 1,
             _ => true,
         }
     }
 
-    fn accept(&mut self, word: Word) {
-        self.after = match (word, self.after) {
-            (Word::Header { slot, events, .. }, _) => {
-                self.slot = Some(slot);
-                self.stated = events;
-                After::Header
-            }
-            (Word::Parameters { .. }, _) => After::Parameters,
-            (Word::Event { .. }, _) => {
-                self.events += 1;
-                After::Event
-            }
-            (Word::TimeLow { bits }, _) => After::TimeLow { shared: take(bits, 26, 24) },
-            (Word::Window { width, .. }, _) => After::Window { samples: width },
-            (Word::Pair { .. }, After::Window { samples }) if samples > 2 => {
-                After::Window { samples: samples - 2 }
-            }
-            (Word::PulseRaw { .. }, _) => After::PulseRaw { pairs: 0, flagged: false },
-            (Word::Pair { second, .. }, After::PulseRaw { pairs, .. }) => {
-                After::PulseRaw { pairs: pairs + 1, flagged: second.is_none() }
-            }
-            (Word::Trailer { .. }, _) => After::Trailer { fillers: 0 },
-            (Word::Filler, After::Trailer { fillers }) => After::Trailer { fillers: fillers + 1 },
-            // "Type 14 in place of a header answers 'module empty', one word read."
-            (Word::Empty { .. }, _) => After::End,
-            _ => After::Whole,
+    /// The scan behind an accepted word.
+    fn behind(&self, word: Word) -> Scan {
+        let (slot, left) = match word {
+            Word::Header { slot, events, .. } => (slot, events),
+            Word::Event { .. } => (self.slot, self.left - 1),
+            _ => (self.slot, self.left),
         };
+        Scan { place: self.place + 1, slot, left, after: self.after_word(word) }
+    }
+
+    fn after_word(&self, word: Word) -> After {
+        match (word, self.after) {
+            (Word::Header { .. }, _) => After::Header,
+            (Word::Parameters { .. }, _) => After::Parameters,
+            (Word::Event { .. }, _) => After::Event,
+            (Word::TimeLow { bits }, _) => After::TimeLow { shared: take(bits, 26, 24) },
+            // "Type 4 has ceil(width/2) pairs"
+            (Word::Window { width, .. }, _) => {
+                After::Window { pairs: width.div_ceil(2), odd: width % 2 == 1 }
+            }
+            (Word::Pair { .. }, After::Window { pairs, odd }) if pairs > 1 => {
+                After::Window { pairs: pairs - 1, odd }
+            }
+            (Word::PulseRaw { .. }, _) => After::PulseRaw { pairs: MOST_PULSE_PAIRS, any: false },
+            // "In type 6 a flagged pair is the last: a pair after it is refused
+            // 12 there."
+            (Word::Pair { second, .. }, After::PulseRaw { pairs, .. }) => {
+                After::PulseRaw { pairs: second.map_or(0, |_| pairs - 1), any: true }
+            }
+            (Word::Trailer { .. }, _) => After::Tail { fillers: MOST_FILLERS },
+            (Word::Filler { .. }, After::Tail { fillers }) => After::Tail { fillers: fillers - 1 },
+            // "Type 14 in place of a header answers 'module empty', one word read."
+            (Word::Empty { .. }, _) => After::Tail { fillers: 0 },
+            _ => After::Whole,
+        }
     }
 }
 
@@ -291,6 +363,33 @@ fn pair(word: u32, may: bool, must: bool) -> Option<Word> {
     })
 }
 
+/// Reads one block from the front of `words`: an iterator over its accepted
+/// words, closed by a refusal if there is one.
+pub struct Block<'a> {
+    words: &'a [u32],
+    /// None once the block has ended or a word was refused.
+    scan: Option<Scan>,
+}
+
+impl<'a> Block<'a> {
+    pub fn new(words: &'a [u32]) -> Block<'a> {
+        Block { words, scan: Some(Scan::START) }
+    }
+}
+
+impl Iterator for Block<'_> {
+    type Item = Result<Word, Refused>;
+
+    fn next(&mut self) -> Option<Self::Item> {
+        let (word, behind) = match self.scan.take()?.step(self.words) {
+            Ok(step) => step?,
+            Err(refused) => return Some(Err(refused)),
+        };
+        self.scan = Some(behind);
+        Some(Ok(word))
+    }
+}
+
 /// How many words the first block of `words` takes, or its refusal.
 pub fn read(words: &[u32]) -> Result<usize, Refused> {
     let mut count = 0;
@@ -312,59 +411,7 @@ pub fn words_of_bytes(bytes: &[u8]) -> Option<Vec<u32>> {
 pub fn check(bytes: &[u8]) -> u64 {
     let result = match words_of_bytes(bytes) {
         Some(words) => read(&words),
-        None => Err(Refused { refusal: Refusal::Bytes, place: 0 }),
+        None => Err(Refusal::Bytes.into()),
     };
-    match result {
-        Ok(count) => count as u64,
-        Err(refused) => (u64::from(refused.refusal.number()) << 32) + refused.place as u64,
-    }
-}
-
-/// One item of a block: "each item answers one of a set of named records
-/// carrying its fields; a raw item carries place and pair count".
-#[derive(Clone, Copy, Debug, PartialEq, Eq)]
-#[rustfmt::skip]
-pub enum Item {
-    /// An item of one word.
-    Single(Word),
-    /// Two time words: the 48-bit time.
-    Clock { time: u64 },
-    /// Type 4 or 6: its defining word, the place of its first pair, its pairs.
-    Raw { head: Word, place: usize, pairs: usize },
-}
-
-/// Accepted words (of one block, from its first word) gathered into items.
-pub fn items(accepted: &[Word]) -> Vec<Item> {
-    let mut items = Vec::new();
-    for (place, &word) in accepted.iter().enumerate() {
-        let next = match (word, items.last_mut()) {
-            (Word::Pair { .. }, Some(Item::Raw { pairs, .. })) => {
-                *pairs += 1;
-                continue;
-            }
-            (Word::TimeHigh { bits }, Some(last @ Item::Single(Word::TimeLow { .. }))) => {
-                if let Item::Single(Word::TimeLow { bits: low }) = *last {
-                    *last = Item::Clock { time: clock(low, bits) };
-                }
-                continue;
-            }
-            (Word::Window { .. } | Word::PulseRaw { .. }, _) => {
-                Item::Raw { head: word, place: place + 1, pairs: 0 }
-            }
-            _ => Item::Single(word),
-        };
-        items.push(next);
-    }
-    items
-}
-
-/// The 48-bit time of both time words.
-pub fn clock(low: u32, high: u32) -> u64 {
-    u64::from(high) << 24 | u64::from(take(low, 23, 0))
-}
-
-/// "a second call gives that part of the caller's words (empty if it does not
-/// lie in them)"
-pub fn raw_part(words: &[u32], place: usize, pairs: usize) -> &[u32] {
-    place.checked_add(pairs).and_then(|end| words.get(place..end)).unwrap_or(&[])
+    result.map_or_else(Refused::number, |count| count as u64)
 }

@@ -1,4 +1,5 @@
-//! The sixteen refusals of the paper, each with its number.
+//! The sixteen refusals of the paper, each with its number, and the one that
+//! only the C calls give.
 
 #[derive(Clone, Copy, Debug, PartialEq, Eq)]
 pub enum Refusal {
@@ -34,6 +35,9 @@ pub enum Refusal {
     Slot = 15,
     /// 16: byte input of a wrong length.
     Bytes = 16,
+    /// 64: an array of numbers that is not as long as the header says, or that is
+    /// no scan.
+    Array = 64,
 }
 
 impl Refusal {

@@ -1,9 +1,10 @@
-//! What document 01 says, run: run A, runs b to i, and refusals 1 to 16.
+//! What document 01 says, run: run A, runs b to i, and refusals 1 to 16; and what
+//! the header says of the calls.
 
 use second::calls;
 use second::finder::{find, Pulse};
 use second::lister::list;
-use second::reader::{check, items, raw_part, words_of_bytes, Block, Item, Word, LIMIT};
+use second::reader::{check, words_of_bytes, LIMIT};
 use second::refusal::Refusal;
 use second::settings::Settings;
 use second::words;
@@ -295,12 +296,6 @@ fn type_six_with_a_flagged_pair() {
     assert_eq!(check(&bytes(&block(&[]))), refused(12, 3));
     assert_eq!(check(&bytes(&block(&[5; 250]))), 254);
     assert_eq!(check(&bytes(&block(&[5; 251]))), refused(12, 253));
-    let accepted: Vec<Word> = Block::new(&good).map(Result::unwrap).collect();
-    let raw =
-        Item::Raw { head: Word::PulseRaw { channel: 15, pulse: 3, tc: 1_023 }, place: 3, pairs: 2 };
-    assert_eq!(items(&accepted)[2], raw);
-    assert_eq!(raw_part(&good, 3, 2), [5, flagged]);
-    assert!(raw_part(&good, 5, 2).is_empty() && raw_part(&good, usize::MAX, 2).is_empty());
 }
 
 #[test]
@@ -353,9 +348,24 @@ fn refusal_1_settings() {
     }
     assert_eq!(calls::set_up(&good[..25], &mut state), 1);
     assert_eq!(calls::set_up(&[], &mut []), 1);
-    assert_eq!(state, [9; 34]);
-    assert_eq!(calls::set_up(&good, &mut [0; 33]), 10);
     assert_eq!(calls::set_up(&good, &mut state), 0);
+}
+
+/// "A refused call fills FADC250_STATE numbers with zeros, a state that every call
+/// refuses with 10; an array of another length stays as it is."
+#[test]
+fn refused_set_up() {
+    let good = settings().encode();
+    let mut state = [9; 34];
+    assert_eq!(calls::set_up(&good[..25], &mut state), 1);
+    assert_eq!(state, [0; 34]);
+    assert_eq!(calls::open_block(&mut state, &mut [0; 9], 1, 1), 10);
+    for length in [0, 33, 35] {
+        let mut other = vec![9; length];
+        assert_eq!(calls::set_up(&good[..25], &mut other), 1, "1 before 64");
+        assert_eq!(calls::set_up(&good, &mut other), 64);
+        assert_eq!(other, vec![9; length]);
+    }
 }
 
 #[test]
@@ -365,11 +375,18 @@ fn refusals_of_the_finder_in_order() {
     assert_eq!(find(&settings(), 15, &bad), Err(Refusal::WindowLength));
     assert_eq!(find(&settings(), 15, &[8_192; 16]), Err(Refusal::Sample));
     let mut out = [5; 30];
-    assert_eq!(calls::find(&settings().encode(), 3, &RUN_A, &mut out[..27]), 9);
-    assert_eq!(out, [5; 30]);
-    assert_eq!(calls::find(&settings().encode(), 3, &RUN_A, &mut out), 0);
+    let good = settings().encode();
+    assert_eq!(calls::find(&good, 3, &RUN_A, &mut out[..27]), 64);
+    assert_eq!(calls::find(&good, 3, &[8_192; 16], &mut out[..27]), 3, "3 before 64");
+    assert_eq!(out, [5; 30], "fewer numbers than 28 stay");
+    assert_eq!(calls::find(&good, 3, &RUN_A, &mut out), 0);
     assert_eq!(out[..11], [1, 7, 5, 11, 700, 6, 52, 11, 200, 4, 0]);
     assert_eq!(out[11..], [vec![0; 17], vec![5; 2]].concat());
+    for (channel, window, answer) in [(16, &RUN_A, 4), (3, &[8_192; 16], 3)] {
+        let mut out = [5; 30];
+        assert_eq!(calls::find(&good, channel, window, &mut out), answer);
+        assert_eq!(out[..], [vec![0; 28], vec![5; 2]].concat(), "no pulses");
+    }
 }
 
 /// A state in an event, with channel 3 posted, as numbers.
@@ -519,7 +536,12 @@ fn refusals_11_to_15() {
 fn refusal_14_at_the_limit() {
     let answers: Vec<u64> = second::cases::limit_cases().map(|case| check(&case.bytes)).collect();
     let limit = LIMIT as u64;
-    assert_eq!(answers, [limit, refused(14, limit), refused(14, limit), refused(11, limit - 1)]);
+    // The longest block and what is missing of it; any word or none at the place;
+    // what follows a trailer.
+    let mut expected = vec![limit, refused(11, limit - 1)];
+    expected.extend([refused(14, limit); 14]);
+    expected.extend([limit + 1, limit + 3, refused(15, limit), refused(15, limit + 1), limit]);
+    assert_eq!(answers, expected);
 }
 
 #[test]

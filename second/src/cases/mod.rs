@@ -2,11 +2,15 @@
 //! number alone, so the line that it prints is enough to make it again.
 
 mod finder;
+mod limit;
 mod reader;
+mod record;
 mod sequence;
 
 pub use finder::FinderCase;
-pub use reader::{every_cut, every_flip, limit_cases, ReaderCase};
+pub use limit::{limit_case, limit_cases, LIMIT_CASES};
+pub use reader::{every_cut, every_flip, ReaderCase};
+pub use record::{SamplesCase, ScanCase};
 pub use sequence::{Bench, SequenceCase, Step};
 
 use crate::calls;
@@ -15,7 +19,7 @@ use crate::settings::{Settings, CHANNELS};
 /// The seed when none is given.
 pub const SEED: u64 = 250;
 
-/// The eight calls, as either program answers them.
+/// The eleven calls, as either program answers them.
 pub trait Side {
     fn set_up(&self, settings: &[u64], state: &mut [u64]) -> u32;
     fn open_block(&self, state: &mut [u64], words: &mut [u32], number: u32, events: u32) -> u32;
@@ -25,6 +29,9 @@ pub trait Side {
     fn finish(&self, state: &mut [u64], words: &mut [u32]) -> u64;
     fn find(&self, settings: &[u64], channel: u32, window: &[u16], out: &mut [u32]) -> u32;
     fn check(&self, bytes: &[u8]) -> u64;
+    fn next(&self, scan: &mut [u32], words: &[u32], record: &mut [u64]) -> u64;
+    fn samples(&self, words: &[u32], place: u32, pairs: u32, samples: &mut [u16]) -> u64;
+    fn list(&self, bytes: &[u8], text: &mut [u8]) -> u64;
 }
 
 /// This program's side.
@@ -54,6 +61,15 @@ impl Side for Second {
     }
     fn check(&self, bytes: &[u8]) -> u64 {
         calls::check(bytes)
+    }
+    fn next(&self, scan: &mut [u32], words: &[u32], record: &mut [u64]) -> u64 {
+        calls::next(scan, words, record)
+    }
+    fn samples(&self, words: &[u32], place: u32, pairs: u32, samples: &mut [u16]) -> u64 {
+        calls::samples(words, place, pairs, samples)
+    }
+    fn list(&self, bytes: &[u8], text: &mut [u8]) -> u64 {
+        calls::list(bytes, text)
     }
 }
 

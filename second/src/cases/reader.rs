@@ -1,7 +1,6 @@
 //! Cases for the reader and the lister: good blocks and damaged ones.
 
 use super::{Rng, Second, SequenceCase, Step};
-use crate::reader::LIMIT;
 use crate::words::{self, put, tag, take};
 use std::fmt;
 
@@ -42,8 +41,8 @@ impl fmt::Display for ReaderCase {
     }
 }
 
-fn bytes_of(words: &[u32]) -> Vec<u8> {
-    words.iter().flat_map(|word| word.to_be_bytes()).collect()
+pub(super) fn bytes_of(words: &[u32]) -> Vec<u8> {
+    words.iter().map(|word| word.to_be_bytes()).collect::<Vec<_>>().concat()
 }
 
 /// The input cut before each of its bytes in turn, and whole.
@@ -60,32 +59,18 @@ pub fn every_flip(bytes: &[u8]) -> impl Iterator<Item = Vec<u8>> + '_ {
     })
 }
 
-/// Blocks about the place 4,194,303 (16 MB each): the longest that can be told
-/// by a trailer, one with a word more, the same cut before its last word, and
-/// the longest cut before its trailer.
-pub fn limit_cases() -> impl Iterator<Item = ReaderCase> {
-    let make = |number: u64, items: usize, end: bool| {
-        let mut words = vec![words::block_header(5, 1, 1), words::event_header(5, 9)];
-        words.resize(2 + items, put(1, 31, 31) | put(words::INTEGRAL, 30, 27));
-        if end {
-            words.push(words::trailer(5, (words.len() as u32 + 1) & 0x3F_FFFF));
-        }
-        ReaderCase { seed: 0, number, kind: "limit", bytes: bytes_of(&words) }
-    };
-    let cases = [(LIMIT - 3, true), (LIMIT - 2, true), (LIMIT - 2, false), (LIMIT - 3, false)];
-    (0..).zip(cases).map(move |(number, (items, end))| make(number, items, end))
-}
-
-fn input(rng: &mut Rng) -> (&'static str, Vec<u32>) {
+pub(super) fn input(rng: &mut Rng) -> (&'static str, Vec<u32>) {
     let mut words = match rng.below(3) {
         0 => written(rng),
         _ => any_block(rng),
     };
-    match rng.below(16) {
+    match rng.below(18) {
         0 | 1 => ("one good block", words),
         2 => ("good blocks", several(rng, words)),
         3 => ("nothing or noise", noise(rng)),
-        4 => ("long input", long(rng, &words)),
+        4 if rng.once_in(8) => ("long input", long(rng, &words)),
+        4 if rng.once_in(8) => ("long block", long_block(rng)),
+        4 => ("filler of another slot", other_filler(rng, words)),
         5 => {
             words = several(rng, words);
             damage(rng, &mut words);
@@ -143,6 +128,11 @@ fn any_block(rng: &mut Rng) -> Vec<u32> {
             any_item(rng, &mut block);
         }
     }
+    end(rng, slot, block)
+}
+
+/// The block with its trailer, and fillers or none.
+fn end(rng: &mut Rng, slot: u32, mut block: Vec<u32>) -> Vec<u32> {
     block.push(words::trailer(slot, block.len() as u32 + 1));
     for _ in 0..rng.below(4) {
         block.push(words::filler(slot) | rng.below(1 << 22) as u32);
@@ -205,10 +195,35 @@ fn noise(rng: &mut Rng) -> Vec<u32> {
     }
 }
 
-/// About the lister's 65,536 bytes: just that many, or a word more or less.
+/// About the lister's 65,536 bytes: just that many, a word more or less, or
+/// many more.
 fn long(rng: &mut Rng, block: &[u32]) -> Vec<u32> {
-    let length = rng.pick(&[16_383, 16_384, 16_385]);
+    let length = rng.pick(&[16_383, 16_384, 16_385, 40_000]);
     block.iter().copied().cycle().take(length).collect()
+}
+
+/// One block of about 65,536 bytes or more.
+fn long_block(rng: &mut Rng) -> Vec<u32> {
+    let slot = rng.below(32) as u32;
+    let least = rng.pick(&[16_000, 16_384, 30_000]);
+    let mut block = vec![words::block_header(slot, 1, 1), words::event_header(slot, 9)];
+    while block.len() < least {
+        any_item(rng, &mut block);
+    }
+    end(rng, slot, block)
+}
+
+/// Up to three good fillers behind the trailer, then one of another slot.
+fn other_filler(rng: &mut Rng, mut words: Vec<u32>) -> Vec<u32> {
+    let filler = |word: &u32| tag(*word) == Some(words::FILLER);
+    while words.last().is_some_and(filler) {
+        words.pop();
+    }
+    let slot = words.last().map_or(0, |&word| take(word, 26, 22));
+    let good = rng.place(4);
+    words.extend((0..good).map(|_| words::filler(slot)));
+    words.push(words::filler(slot ^ 1 << rng.below(5)));
+    words
 }
 
 /// A word of any type that may well be right where it comes to stand.
@@ -231,7 +246,7 @@ fn plausible(rng: &mut Rng, slot: u32) -> u32 {
 }
 
 /// The damages, by their numbers below.
-const DAMAGES: [&str; 9] = [
+const DAMAGES: [&str; 10] = [
     "bit flipped",
     "bit flipped",
     "word lost",
@@ -240,6 +255,7 @@ const DAMAGES: [&str; 9] = [
     "cut at a word",
     "word at random",
     "word replaced",
+    "word many times",
     "word put in",
 ];
 
@@ -260,6 +276,11 @@ fn damage(rng: &mut Rng, words: &mut Vec<u32>) -> &'static str {
         5 => words.truncate(place),
         6 => words[place] = rng.next() as u32,
         7 => words[place] = plausible(rng, slot),
+        8 => {
+            let times = rng.pick(&[1, 2, 3, 249, 250]);
+            let more = vec![words[place]; times];
+            words.splice(place..place, more);
+        }
         _ => words.insert(place, plausible(rng, slot)),
     }
     DAMAGES[kind]

@@ -1,6 +1,7 @@
 //! Cases for the writer: calls in any order, with what the host does between.
 
 use super::{bad_sample, good_settings, spoil_settings, window, Rng, Second, Side};
+use crate::settings::Settings;
 use crate::writer::{Phase, State};
 use std::fmt;
 
@@ -68,6 +69,17 @@ impl Bench {
     }
 }
 
+/// The same call with room for so many words.
+fn with_room(step: &Step, room: usize) -> Step {
+    let mut step = step.clone();
+    if let Step::OpenBlock { words, .. } | Step::Close { words, .. } | Step::Finish { words } =
+        &mut step
+    {
+        *words = room;
+    }
+    step
+}
+
 fn set<T>(values: &mut [T], place: usize, value: T) -> u64 {
     if let Some(old) = values.get_mut(place) {
         *old = value;
@@ -84,27 +96,67 @@ pub struct SequenceCase {
     pub steps: Vec<Step>,
 }
 
+/// What a sequence is to bring about.
+#[derive(Clone, Copy, Debug, PartialEq, Eq)]
+enum Plan {
+    /// Some small blocks, disturbed often.
+    Usual,
+    /// Blocks of very many events.
+    Many,
+    /// Events of the most words that there can be.
+    Full,
+}
+
 impl SequenceCase {
     pub fn new(seed: u64, number: u64) -> SequenceCase {
         let mut rng = Rng::of_case(2, seed, number);
-        let settings = good_settings(&mut rng);
+        let plan = match rng.below(120) {
+            0 => Plan::Many,
+            1 => Plan::Full,
+            _ => Plan::Usual,
+        };
+        let settings = settings_for(&mut rng, plan);
         let nw = settings.nw as usize;
         let length = 16 * nw + rng.pick(&[0, 0, 0, 1, nw]);
         let store = store(&mut rng, length);
-        let long = rng.once_in(60);
         // Room for three full events, or for very many small ones.
         let full = 3 + 16 * (1 + nw.div_ceil(2)) * 3;
-        let room = if long { 40_000 } else { 3 * full + 64 };
+        let room = if plan == Plan::Many { 40_000 } else { 3 * full + 64 };
         let bench = Bench {
             state: (0..State::NUMBERS).map(|_| rng.next()).collect(),
             store,
             words: (0..room).map(|_| rng.next() as u32).collect(),
         };
-        let mut maker = Maker { rng, now: bench.clone(), steps: Vec::new(), whole: 0, long };
+        let tight = rng.once_in(2);
+        let mut maker = Maker { rng, now: bench.clone(), steps: Vec::new(), whole: 0, plan, tight };
         maker.push(Step::SetUp { settings: settings.encode().to_vec() });
         maker.make();
         SequenceCase { seed, number, bench, steps: maker.steps }
     }
+}
+
+fn settings_for(rng: &mut Rng, plan: Plan) -> Settings {
+    let mut settings = good_settings(rng);
+    match plan {
+        Plan::Usual => {}
+        Plan::Many => settings.nw = rng.between(1, 12),
+        // Mode 2 with three sets that all start at 1 gives the most words.
+        Plan::Full => {
+            settings.mode = rng.pick(&[1, 2, 2, 8]);
+            (settings.nw, settings.nsb, settings.nsa, settings.limit) = (500, 511, 1, 3);
+            settings.thresholds = settings.thresholds.map(|threshold| threshold.min(4_094));
+        }
+    }
+    settings
+}
+
+/// A window of 500 samples whose last three crossings come as late as they can.
+fn late_window(rng: &mut Rng, threshold: u32) -> Vec<u16> {
+    let mut samples: Vec<u16> = (0..500).map(|_| super::low(rng, threshold)).collect();
+    for number in [496, 498, 500] {
+        samples[number - 1] = rng.between(u64::from(threshold) + 1, 4_095) as u16;
+    }
+    samples
 }
 
 impl fmt::Display for SequenceCase {
@@ -133,32 +185,38 @@ struct Maker {
     steps: Vec<Step>,
     /// Blocks finished.
     whole: u32,
-    /// A block of many events.
-    long: bool,
+    plan: Plan,
+    /// Whether a call gets first too little room for its words, then just enough.
+    tight: bool,
 }
 
 impl Maker {
+    /// Does the step, and answers its refusal, 0 for none.
     fn push(&mut self, step: Step) -> u64 {
         let answer = self.now.apply(&Second, &step);
-        if matches!(step, Step::Finish { .. }) && answer >> 32 == 0 {
-            self.whole += 1;
-        }
+        let finish = matches!(step, Step::Finish { .. });
+        let refusal = if finish { answer >> 32 } else { answer };
+        self.whole += u32::from(finish && refusal == 0);
         self.steps.push(step);
-        answer
+        refusal
     }
 
     fn make(&mut self) {
-        let (most, rarity) = if self.long { (700, 60) } else { (90, self.rng.pick(&[3, 8, 30])) };
+        let (most, rarity) = match self.plan {
+            Plan::Usual => (90, self.rng.pick(&[3, 8, 30])),
+            Plan::Many => (3_000, 500),
+            Plan::Full => (90, 30),
+        };
         let blocks = self.rng.between(1, 3) as u32;
         while self.steps.len() < most && self.whole < blocks {
             if self.rng.once_in(rarity) {
                 self.disturb();
             } else {
                 let step = self.natural();
-                let answer = self.push(step);
+                let refusal = self.push(step);
                 // A store that is too short or holds what is no sample would stop
                 // the block for good: mostly another one is lent.
-                if matches!(answer, 2 | 3) && !self.rng.once_in(4) {
+                if matches!(refusal, 2 | 3) && !self.rng.once_in(4) {
                     self.lend_good_store();
                 }
             }
@@ -194,14 +252,20 @@ impl Maker {
     }
 
     fn wants_post(&mut self, marks: u16) -> bool {
-        let more = if self.long { 3 } else { 6 };
+        let more = match self.plan {
+            Plan::Usual => 6,
+            Plan::Many => 3,
+            Plan::Full => 1_000,
+        };
         marks != u16::MAX && !self.rng.once_in(more - u64::from(marks == 0))
     }
 
     fn open_block(&mut self) -> Step {
         let number = self.rng.pick(&[0, 1, 2, 500, 1_023]);
-        let events =
-            if self.long { self.rng.pick(&[40, 255]) } else { self.rng.between(1, 4) as u32 };
+        let events = match self.plan {
+            Plan::Many => self.rng.pick(&[40, 255]),
+            _ => self.rng.between(1, 4) as u32,
+        };
         Step::OpenBlock { words: usize::MAX, number, events }
     }
 
@@ -218,30 +282,40 @@ impl Maker {
         let free: Vec<u32> = (0..16).filter(|c| state.marks >> c & 1 == 0).collect();
         let channel = self.rng.pick(&free);
         let threshold = state.settings.thresholds[channel as usize];
-        let window = window(&mut self.rng, state.settings.nw as usize, threshold);
+        let nw = state.settings.nw as usize;
+        let late = self.plan == Plan::Full && nw == 500 && threshold < 4_095;
+        let mut window = if late {
+            late_window(&mut self.rng, threshold)
+        } else {
+            window(&mut self.rng, nw, threshold)
+        };
+        if self.rng.once_in(300) {
+            window[self.rng.place(nw)] = bad_sample(&mut self.rng);
+        }
         Step::Post { store: usize::MAX, channel, window }
     }
 
-    /// Lends now and then exactly the words that a call needs, or one fewer.
-    fn lend_words(&mut self, mut step: Step) -> Step {
-        let less = match self.rng.below(8) {
-            0 => 0,
-            1 => 1,
-            _ => return step,
-        };
-        let mut tried = self.now.clone();
-        let answer = tried.apply(&Second, &step);
-        let needed = match (&step, State::decode(&tried.state)) {
-            (Step::Finish { .. }, _) => answer as u32 as usize,
-            (_, Some(state)) => state.words as usize,
-            _ => return step,
-        };
-        if let Step::OpenBlock { words, .. } | Step::Close { words, .. } | Step::Finish { words } =
-            &mut step
-        {
-            *words = needed.saturating_sub(less);
+    /// Where room is tight: two words too few, one too few, and then just
+    /// enough, or one or two more.
+    fn lend_words(&mut self, step: Step) -> Step {
+        let Some(needed) = self.needed(&step).filter(|_| self.tight) else { return step };
+        for less in [2, 1] {
+            self.push(with_room(&step, needed.saturating_sub(less)));
         }
-        step
+        with_room(&step, needed + self.rng.place(3))
+    }
+
+    /// The room that a call needs; none for one that writes no words.
+    fn needed(&self, step: &Step) -> Option<usize> {
+        let mut tried = self.now.clone();
+        let answer = tried.apply(&Second, step);
+        match step {
+            Step::OpenBlock { .. } | Step::Close { .. } => {
+                State::decode(&tried.state).map(|state| state.words as usize)
+            }
+            Step::Finish { .. } => Some(answer as u32 as usize),
+            _ => None,
+        }
     }
 
     fn disturb(&mut self) {
@@ -252,17 +326,7 @@ impl Maker {
             }
             2 | 3 => self.forge(),
             4 => self.overwrite(),
-            5 => {
-                let length = self.rng.pick(&[0, 8, 26, 33, 35]);
-                let step = self.natural();
-                let old = self.now.state.clone();
-                self.push(Step::StateLength { length });
-                self.push(step);
-                self.push(Step::StateLength { length: State::NUMBERS });
-                for (place, value) in old.into_iter().enumerate().skip(length) {
-                    self.push(Step::Forge { place, value });
-                }
-            }
+            5 => self.other_length(),
             _ => {
                 let nw = self.state().map_or(16, |state| state.settings.nw as usize);
                 let length = 16 * nw + self.rng.pick(&[0, 0, 0, 3]) - self.rng.pick(&[0, 0, 0, 1]);
@@ -272,6 +336,28 @@ impl Maker {
         }
     }
 
+    /// A call with a state of another length, which is then put right again.
+    fn other_length(&mut self) {
+        let length = self.rng.pick(&[0, 8, 26, 33, 35]);
+        let step = if self.rng.once_in(3) { self.any_set_up() } else { self.natural() };
+        let old = self.now.state.clone();
+        self.push(Step::StateLength { length });
+        self.push(step);
+        self.push(Step::StateLength { length: State::NUMBERS });
+        for (place, value) in old.into_iter().enumerate().skip(length) {
+            self.push(Step::Forge { place, value });
+        }
+    }
+
+    /// Mostly refused: a set up that is accepted throws the block away.
+    fn any_set_up(&mut self) -> Step {
+        let mut settings = good_settings(&mut self.rng).encode().to_vec();
+        if !self.rng.once_in(4) {
+            spoil_settings(&mut self.rng, &mut settings);
+        }
+        Step::SetUp { settings }
+    }
+
     /// Any call at any time, its numbers often at or over an edge.
     fn any_call(&mut self) -> Step {
         let full = usize::MAX;
@@ -279,14 +365,7 @@ impl Maker {
         let words = rng.pick(&[0, 1, 2, full, full]);
         let store = rng.pick(&[0, self.now.store.len().saturating_sub(1), full, full]);
         match rng.below(6) {
-            0 => {
-                let mut settings = good_settings(rng).encode().to_vec();
-                // Mostly refused: a set up that is accepted throws the block away.
-                if !rng.once_in(4) {
-                    spoil_settings(rng, &mut settings);
-                }
-                Step::SetUp { settings }
-            }
+            0 => self.any_set_up(),
             1 => {
                 let number = rng.pick(&[0, 1_023, 1_024, u32::MAX]);
                 Step::OpenBlock { words, number, events: rng.pick(&[0, 1, 255, 256, u32::MAX]) }
@@ -317,20 +396,26 @@ impl Maker {
         Step::Post { store, channel, window }
     }
 
-    /// A number of the state altered before the next call, and mostly put back
-    /// when that was refused.
+    /// One or two numbers of the state altered before the next call, and mostly
+    /// put back when that was refused.
     fn forge(&mut self) {
         let step = self.natural();
-        let place = match self.rng.below(3) {
-            0 => self.rng.place(self.now.state.len()),
-            _ => self.rng.place(8),
-        };
-        let old = self.now.state.get(place).copied().unwrap_or(0);
-        let value = self.forged(place, old);
-        self.push(Step::Forge { place, value });
-        let answer = self.push(step);
-        if answer != 0 && !self.rng.once_in(8) {
-            self.push(Step::Forge { place, value: old });
+        let mut olds = Vec::new();
+        for _ in 0..self.rng.between(1, 2) {
+            let place = match self.rng.below(3) {
+                0 => self.rng.place(self.now.state.len()),
+                _ => self.rng.place(8),
+            };
+            let old = self.now.state.get(place).copied().unwrap_or(0);
+            let value = self.forged(place, old);
+            olds.push((place, old));
+            self.push(Step::Forge { place, value });
+        }
+        let refusal = self.push(step);
+        if refusal != 0 && !self.rng.once_in(8) {
+            for (place, value) in olds.into_iter().rev() {
+                self.push(Step::Forge { place, value });
+            }
         }
     }
 

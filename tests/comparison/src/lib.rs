@@ -1,4 +1,4 @@
-//! The library's side: the eight calls of `include/fadc250.h`.
+//! The library's side: the eleven calls of `include/fadc250.h`.
 
 use second::cases::Side;
 
@@ -41,6 +41,23 @@ extern "C" {
         o: usize,
     ) -> u32;
     fn fadc250_check(bytes: *const u8, n: usize) -> u64;
+    fn fadc250_next(
+        scan: *mut u32,
+        k: usize,
+        words: *const u32,
+        w: usize,
+        record: *mut u64,
+        r: usize,
+    ) -> u64;
+    fn fadc250_samples(
+        words: *const u32,
+        w: usize,
+        place: u32,
+        pairs: u32,
+        samples: *mut u16,
+        s: usize,
+    ) -> u64;
+    fn fadc250_list(bytes: *const u8, n: usize, text: *mut u8, t: usize) -> u64;
 }
 
 pub struct Library;
@@ -110,5 +127,32 @@ impl Side for Library {
     }
     fn check(&self, bytes: &[u8]) -> u64 {
         unsafe { fadc250_check(bytes.as_ptr(), bytes.len()) }
+    }
+    fn next(&self, scan: &mut [u32], words: &[u32], record: &mut [u64]) -> u64 {
+        unsafe {
+            fadc250_next(
+                scan.as_mut_ptr(),
+                scan.len(),
+                words.as_ptr(),
+                words.len(),
+                record.as_mut_ptr(),
+                record.len(),
+            )
+        }
+    }
+    fn samples(&self, words: &[u32], place: u32, pairs: u32, samples: &mut [u16]) -> u64 {
+        unsafe {
+            fadc250_samples(
+                words.as_ptr(),
+                words.len(),
+                place,
+                pairs,
+                samples.as_mut_ptr(),
+                samples.len(),
+            )
+        }
+    }
+    fn list(&self, bytes: &[u8], text: &mut [u8]) -> u64 {
+        unsafe { fadc250_list(bytes.as_ptr(), bytes.len(), text.as_mut_ptr(), text.len()) }
     }
 }

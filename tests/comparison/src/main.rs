@@ -1,166 +1,146 @@
 //! Runs the library and the second program on the same cases and stops at the first difference.
 
-use comparison::Library;
-use second::cases::{
-    every_cut, every_flip, limit_cases, FinderCase, ReaderCase, Second, SequenceCase, Side, Step,
-    SEED,
-};
-use second::lister;
-use std::io::Write;
-use std::process::{Command, ExitCode, Stdio};
+mod reading;
+mod table;
+mod writing;
 
-const USAGE: &str = "tests/compare [--long] [--seed NUMBER]\n";
+use second::cases::{LIMIT_CASES, SEED};
+use std::fmt::{Debug, Display};
+use std::process::ExitCode;
+use table::{Call, Table};
 
-/// How often each answer came up, 0 for accepted.
-#[derive(Default)]
-struct Met([u64; 17]);
+const USAGE: &str = "tests/compare [--long] [--seed NUMBER]\ntests/replay KIND SEED NUMBER\n";
 
-impl Met {
-    fn note(&mut self, refusal: u64) {
-        self.0[refusal.min(16) as usize] += 1;
-    }
+/// A kind of case: its name, how many there are, and the comparison of the one of a seed and number.
+struct Kind {
+    name: &'static str,
+    count: u64,
+    compare: fn(&mut Run, u64, u64) -> Result<(), String>,
 }
 
-fn differ(case: &str, ours: &dyn std::fmt::Debug, theirs: &dyn std::fmt::Debug) -> String {
-    format!("{case}\n  library: {ours:?}\n  second:  {theirs:?}")
+const KINDS: [Kind; 7] = [
+    Kind { name: "finder", count: 100_000, compare: writing::finder },
+    Kind { name: "sequence", count: 3_000, compare: writing::sequence },
+    Kind { name: "reader", count: 30_000, compare: reading::reader },
+    Kind { name: "limit", count: LIMIT_CASES, compare: reading::limit },
+    Kind { name: "scan", count: 40_000, compare: reading::scan },
+    Kind { name: "samples", count: 20_000, compare: reading::part },
+    Kind { name: "lister", count: 2_000, compare: reading::lister },
+];
+
+/// The cases of all kinds are taken in turns, a round of each, so that a difference shows early.
+const ROUNDS: u64 = 50;
+
+pub struct Run {
+    /// Where the lister is.
+    lister: String,
+    met: Table,
+    /// The most words of an event, and the most events of a block.
+    longest_event: u64,
+    most_events: u64,
 }
 
-fn finder(seed: u64, count: u64, met: &mut Met) -> Result<u64, String> {
-    for number in 0..count {
-        let case = FinderCase::new(seed, number);
-        let (mut ours, mut theirs) = (case.out.clone(), case.out.clone());
-        let a = Library.find(&case.settings, case.channel, &case.window, &mut ours);
-        let b = Second.find(&case.settings, case.channel, &case.window, &mut theirs);
-        if (a, &ours) != (b, &theirs) {
-            return Err(differ(&case.to_string(), &(a, ours), &(b, theirs)));
+impl Run {
+    /// Counts a call's answer, 0 or its refusal, if what both sides gave is the same.
+    fn same<T: PartialEq + Debug>(
+        &mut self,
+        what: &dyn Display,
+        call: Call,
+        answer: u64,
+        ours: &T,
+        theirs: &T,
+    ) -> Result<(), String> {
+        if ours != theirs {
+            return Err(format!("{what}, {call:?}\n  library: {ours:?}\n  second:  {theirs:?}\n"));
         }
-        met.note(a.into());
+        self.met.note(call, answer).map_err(|why| format!("{what}: {why}\n"))
     }
-    Ok(count)
 }
 
-/// Answers how many steps there were. State, store and words are compared whole after each.
-fn sequences(seed: u64, count: u64, met: &mut Met) -> Result<u64, String> {
-    let mut steps = 0;
-    for number in 0..count {
-        let case = SequenceCase::new(seed, number);
-        let (mut ours, mut theirs) = (case.bench.clone(), case.bench.clone());
-        for (place, step) in case.steps.iter().enumerate() {
-            let (a, b) = (ours.apply(&Library, step), theirs.apply(&Second, step));
-            if a != b || ours != theirs {
-                return Err(differ(
-                    &format!("{case}, step {place}: {step:?}"),
-                    &(a, &ours.state),
-                    &(b, &theirs.state),
-                ));
-            }
-            let finish = matches!(step, Step::Finish { .. });
-            met.note(if finish { a >> 32 } else { a });
-            steps += 1;
-        }
-    }
-    Ok(steps)
+/// Where two lists part, in a line; none if they are the same.
+fn first_difference<T: PartialEq + Debug>(name: &str, ours: &[T], theirs: &[T]) -> String {
+    let longer = ours.len().max(theirs.len());
+    let differs = |&place: &usize| ours.get(place) != theirs.get(place);
+    (0..longer).find(differs).map_or(String::new(), |place| {
+        format!("  {name} {place}: library {:?}, second {:?}\n", ours.get(place), theirs.get(place))
+    })
 }
 
-fn same_check(bytes: &[u8], case: &dyn std::fmt::Display, met: &mut Met) -> Result<(), String> {
-    let (a, b) = (Library.check(bytes), Second.check(bytes));
-    met.note(a >> 32);
-    if a == b {
-        return Ok(());
-    }
-    Err(differ(&format!("{case}, bytes {bytes:02X?}"), &(a >> 32, a as u32), &(b >> 32, b as u32)))
-}
-
-/// Answers how many inputs there were: the cases, and all cuts and bit flips of the shorter ones.
-fn reader(seed: u64, count: u64, met: &mut Met) -> Result<u64, String> {
-    let mut inputs = 0;
-    for number in 0..count {
-        let case = ReaderCase::new(seed, number);
-        same_check(&case.bytes, &case, met)?;
-        inputs += 1;
-        if number % 32 == 0 && case.bytes.len() <= 400 {
-            for cut in every_cut(&case.bytes) {
-                same_check(cut, &case, met)?;
-                inputs += 1;
-            }
-            for flipped in every_flip(&case.bytes) {
-                same_check(&flipped, &case, met)?;
-                inputs += 1;
+fn compare(run: &mut Run, seed: u64, times: u64) -> Result<(), String> {
+    for round in 0..ROUNDS * times {
+        for kind in &KINDS {
+            // The limit's cases have no seed: once is enough.
+            let rounds = if kind.name == "limit" { ROUNDS * times } else { ROUNDS };
+            let until = |round: u64| kind.count * round / rounds;
+            for number in until(round)..until(round + 1) {
+                one(run, kind, seed, number)?;
             }
         }
     }
-    for case in limit_cases() {
-        same_check(&case.bytes, &case, met)?;
-        inputs += 1;
+    if run.longest_event <= 12_000 || run.most_events < 255 {
+        return Err("no event of more than 12,000 words, or no block of 255 events".to_string());
     }
-    Ok(inputs)
+    run.met.missing()
 }
 
-/// The lister is a program: its text through a pipe.
-fn listed(program: &str, bytes: &[u8]) -> std::io::Result<Vec<u8>> {
-    let mut child = Command::new(program).stdin(Stdio::piped()).stdout(Stdio::piped()).spawn()?;
-    let mut input = child.stdin.take().ok_or_else(|| std::io::Error::other("no pipe"))?;
-    let bytes = bytes.to_vec();
-    // It reads no more than it needs, so the rest may not be taken.
-    let writer = std::thread::spawn(move || input.write_all(&bytes));
-    let text = child.wait_with_output()?.stdout;
-    let _ = writer.join();
-    Ok(text)
+fn one(run: &mut Run, kind: &Kind, seed: u64, number: u64) -> Result<(), String> {
+    let name = kind.name;
+    (kind.compare)(run, seed, number)
+        .map_err(|what| format!("{what}replay: tests/replay {name} {seed} {number}"))
 }
 
-fn lister(program: &str, seed: u64, count: u64) -> Result<u64, String> {
-    for number in 0..count {
-        let case = ReaderCase::new(seed, number);
-        let ours = listed(program, &case.bytes).map_err(|error| format!("{program}: {error}"))?;
-        let theirs = lister::list(&case.bytes);
-        if ours != theirs.as_bytes() {
-            return Err(differ(
-                &format!("{case}, listed"),
-                &String::from_utf8_lossy(&ours),
-                &theirs,
-            ));
+fn said(run: &Run) -> String {
+    use Call::*;
+    let met = &run.met;
+    let calls = met.made(&[SetUp, OpenBlock, OpenEvent, Post, Close, Finish]);
+    let [windows, inputs, records] = [Find, Check, Next].map(|call| met.made(&[call]));
+    let [parts, texts, listings] = [Samples, List, Lister].map(|call| met.made(&[call]));
+    format!(
+        "the same on {windows} windows, {calls} steps of calls, {inputs} inputs, \
+         {records} records, {parts} raw parts, {texts} texts and {listings} listings"
+    )
+}
+
+/// `--long` and `--seed`: how many times the cases are taken, and their seed.
+fn options(arguments: &[&str]) -> Option<(u64, u64)> {
+    match *arguments {
+        [] => Some((1, SEED)),
+        ["--long", ref rest @ ..] => options(rest).map(|(_, seed)| (20, seed)),
+        ["--seed", number, ref rest @ ..] => {
+            options(rest).and_then(|(times, _)| Some((times, number.parse().ok()?)))
         }
+        _ => None,
     }
-    Ok(count)
-}
-
-fn compare(program: &str, seed: u64, times: u64) -> Result<(), String> {
-    let mut met = Met::default();
-    let finder = finder(seed, 100_000 * times, &mut met)?;
-    let steps = sequences(seed, 3_000 * times, &mut met)?;
-    let inputs = reader(seed, 40_000 * times, &mut met)?;
-    let texts = lister(program, seed, 2_000 * times)?;
-    println!("seed {seed}: the same on {finder} windows, {steps} steps of calls, {inputs} inputs and {texts} listings");
-    for (refusal, count) in met.0.iter().enumerate() {
-        println!("  answer {refusal:2}: {count} times");
-        if *count == 0 {
-            return Err(format!("{refusal} never came up"));
-        }
-    }
-    Ok(())
 }
 
 fn main() -> ExitCode {
     let arguments: Vec<String> = std::env::args().skip(1).collect();
-    let Some((program, options)) = arguments.split_first() else { return usage() };
-    let (mut times, mut seed) = (1, SEED);
-    let mut options = options.iter();
-    while let Some(option) = options.next() {
-        match (option.as_str(), options.as_slice().first().and_then(|text| text.parse().ok())) {
-            ("--long", _) => times = 20,
-            ("--seed", Some(number)) => {
-                seed = number;
-                options.next();
-            }
-            _ => return usage(),
+    let arguments: Vec<&str> = arguments.iter().map(String::as_str).collect();
+    let Some((lister, arguments)) = arguments.split_first() else { return usage() };
+    let mut run =
+        Run { lister: lister.to_string(), met: Table::new(), longest_event: 0, most_events: 0 };
+    let result = match *arguments {
+        ["--case", name, seed, number] => {
+            let kind = KINDS.iter().find(|kind| kind.name == name);
+            let (Some(kind), Ok(seed), Ok(number)) = (kind, seed.parse(), number.parse()) else {
+                return usage();
+            };
+            one(&mut run, kind, seed, number).map(|()| seed)
         }
-    }
-    match compare(program, seed, times) {
-        Ok(()) => ExitCode::SUCCESS,
+        ref arguments => {
+            let Some((times, seed)) = options(arguments) else { return usage() };
+            compare(&mut run, seed, times).map(|()| seed)
+        }
+    };
+    print!("{}", run.met);
+    println!("longest event {} words, most events {}", run.longest_event, run.most_events);
+    match result {
+        Ok(seed) => {
+            println!("seed {seed}: {}", said(&run));
+            ExitCode::SUCCESS
+        }
         Err(what) => {
-            eprintln!(
-                "seed {seed}: {what}\nreplay: second case finder|sequence|reader SEED NUMBER"
-            );
+            eprintln!("{what}");
             ExitCode::FAILURE
         }
     }
