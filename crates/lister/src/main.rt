@@ -2,11 +2,9 @@
 use libc::STDERR_FILENO;
 use libc::STDIN_FILENO;
 use libc::STDOUT_FILENO;
+use listing::LONGEST;
 use listing::Listed;
 ghost use Rattle.lister.specs.Within.{Within};
-
-// The most bytes of an input.
-const LONGEST: usize = 65536;
 
 // How many bytes were read; or that reading failed.
 enum Input {

@@ -14,7 +14,7 @@ use refusals::Refusal;
 use scan::Scan;
 
 // The most bytes of an input of the lister.
-const LONGEST: usize = 65536;
+pub const LONGEST: usize = 65536;
 
 // What one block leaves: the next place of the text, the bytes that it takes, whether it is whole.
 pub struct Block {

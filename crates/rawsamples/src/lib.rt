@@ -7,9 +7,7 @@ ghost use Rattle.rawsamples.specs.RawSamples.{ifValid, samplesOfPair, sa
 ghost use Rattle.rawsamples.specs.Says.{SamplesSay};
 use raw::pair::SamplePair;
 use rawitems::Pairs;
-
-// Past the array's end the place grows up to this number and stays; no array is so long.
-const FARTHEST: usize = 9223372036854775808;
+use text::FARTHEST;
 
 // A sample of thirteen bits, where its flag does not say "not valid".
 fn put_sample(out: &mut [u16], at: usize, flag: u32, sample: u32) -> usize

@@ -11,7 +11,7 @@ const LINE_FEED: u8 = 10;
 const DASH: u8 = 45;
 
 // Past the page's end the place grows up to this number and stays; no page is so long.
-const FARTHEST: usize = 9223372036854775808;
+pub const FARTHEST: usize = 9223372036854775808;
 
 // Every writer has this contract: the page before, the bytes put, the page after.
 fn put_byte(text: &mut [u8], at: usize, b: u8) -> usize
