@@ -2,7 +2,7 @@
 use Prim.Native.Nat.{ℕ, zero, suc, _+_, _*_, _-_, _^_, _≤_, _<_}
 use mathlib.Core.Path.{_≡_, refl, sym, ap, _∙_, subst}
 use mathlib.Core.Bool.{Bool, true, false, cond}
-use mathlib.Core.List.{List, [], _∷_, _++_, append-nil}
+use mathlib.Core.List.{List, [], _∷_, _++_}
 use native.Mathlib.Omega.{arith}
 use contract.Lifetimes.{Lfts}
 use denote.Ref.{now}
@@ -13,7 +13,7 @@ use Rattle.ground.specs.SpliceLaws.{splice-front}
 use Rattle.items.specs.declared.Item.{Item}
 use Rattle.scan.specs.After.{onward, startOf}
 use Rattle.scan.specs.declared.Scan.{Scan}
-use Rattle.reader.specs.Reader.{Out, Whole, Broken, Reading, just, then, readFrom, checkFrom}
+use Rattle.reader.specs.Reader.{Out, Whole, Broken, Reading, just, then, readFrom}
 use Rattle.reader.specs.RunLaws.{before, check-reads}
 use Rattle.records.specs.declared.answer.Record.{Record}
 use Rattle.records.specs.declared.answer.Record.the-variants as R
@@ -23,7 +23,7 @@ use Rattle.records.specs.Next.{Made, nextAt}
 use Rattle.records.specs.NextLaws.{Taken, SaysNext, next-says}
 use Rattle.records.specs.AnswersLaws.{next-answers}
 use Rattle.bytecheck.specs.Check.{numberOfOut, checkNumber}
-use Rattle.cursors.specs.Cursors.{isScan, scanFrom, cursorOf}
+use Rattle.cursors.specs.Cursors.{cursorOf}
 use Rattle.cursors.specs.CursorsLaws.{scan-over, scan-back, scan-is, start-zeros}
 use Rattle.cells.specs.Cells.{recordCount, kindOf, endKind, fieldNumbers, recordNumbers, endNumbers, noNumbers}
 use Rattle.cells.specs.SoundLaws.{took-sound}
