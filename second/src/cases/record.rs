@@ -21,11 +21,7 @@ impl ScanCase {
     pub fn new(seed: u64, number: u64) -> ScanCase {
         let rng = &mut Rng::of_case(4, seed, number);
         let (_, words) = input(rng);
-        let mut scan = vec![0; 6];
-        // First as a reading gets there.
-        for _ in 0..rng.below(8) {
-            Second.next(&mut scan, &words, &mut [0; 6]);
-        }
+        let mut scan = reached(&words, rng.below(8));
         if rng.once_in(2) {
             within_item(rng, &words, &mut scan);
         }
@@ -44,6 +40,15 @@ impl ScanCase {
         let record = (0..lent).map(|_| rng.next()).collect();
         ScanCase { seed, number, words, scan, record }
     }
+}
+
+/// As a reading gets it.
+fn reached(words: &[u32], records: u64) -> Vec<u32> {
+    let mut scan = vec![0; 6];
+    for _ in 0..records {
+        Second.next(&mut scan, words, &mut [0; 6]);
+    }
+    scan
 }
 
 /// Before any word, as if what goes before it were just what is wanted.

@@ -344,9 +344,7 @@ impl Maker {
         self.push(Step::StateLength { length });
         self.push(step);
         self.push(Step::StateLength { length: State::NUMBERS });
-        for (place, value) in old.into_iter().enumerate().skip(length) {
-            self.push(Step::Forge { place, value });
-        }
+        self.put_back(&old);
     }
 
     /// Mostly refused: a set up that is accepted throws the block away.
@@ -400,20 +398,26 @@ impl Maker {
     /// put back when that was refused.
     fn forge(&mut self) {
         let step = self.natural();
-        let mut olds = Vec::new();
+        let old = self.now.state.clone();
         for _ in 0..self.rng.between(1, 2) {
             let place = match self.rng.below(3) {
                 0 => self.rng.place(self.now.state.len()),
                 _ => self.rng.place(8),
             };
-            let old = self.now.state.get(place).copied().unwrap_or(0);
-            let value = self.forged(place, old);
-            olds.push((place, old));
+            let value = self.now.state.get(place).copied().unwrap_or(0);
+            let value = self.forged(place, value);
             self.push(Step::Forge { place, value });
         }
         let refusal = self.push(step);
         if refusal != 0 && !self.rng.once_in(8) {
-            for (place, value) in olds.into_iter().rev() {
+            self.put_back(&old);
+        }
+    }
+
+    /// The state's numbers that are no longer as they were.
+    fn put_back(&mut self, old: &[u64]) {
+        for (place, &value) in old.iter().enumerate() {
+            if self.now.state.get(place) != Some(&value) {
                 self.push(Step::Forge { place, value });
             }
         }

@@ -18,7 +18,7 @@ struct Kind {
     compare: fn(&mut Run, u64, u64) -> Result<(), String>,
 }
 
-const KINDS: [Kind; 7] = [
+static KINDS: [Kind; 7] = [
     Kind { name: "finder", count: 100_000, compare: writing::finder },
     Kind { name: "sequence", count: 3_000, compare: writing::sequence },
     Kind { name: "reader", count: 30_000, compare: reading::reader },
@@ -66,16 +66,18 @@ fn first_difference<T: PartialEq + Debug>(name: &str, ours: &[T], theirs: &[T]) 
     })
 }
 
+/// The cases of a round. The limit's have no seed: `--long` takes them once.
+fn cases(round: u64, times: u64) -> impl Iterator<Item = (&'static Kind, u64)> {
+    KINDS.iter().flat_map(move |kind| {
+        let rounds = if kind.name == "limit" { ROUNDS * times } else { ROUNDS };
+        let until = move |round: u64| kind.count * round / rounds;
+        (until(round)..until(round + 1)).map(move |number| (kind, number))
+    })
+}
+
 fn compare(run: &mut Run, seed: u64, times: u64) -> Result<(), String> {
-    for round in 0..ROUNDS * times {
-        for kind in &KINDS {
-            // The limit's cases have no seed: once is enough.
-            let rounds = if kind.name == "limit" { ROUNDS * times } else { ROUNDS };
-            let until = |round: u64| kind.count * round / rounds;
-            for number in until(round)..until(round + 1) {
-                one(run, kind, seed, number)?;
-            }
-        }
+    for (kind, number) in (0..ROUNDS * times).flat_map(|round| cases(round, times)) {
+        one(run, kind, seed, number)?;
     }
     if run.longest_event <= 12_000 || run.most_events < 255 {
         return Err("no event of more than 12,000 words, or no block of 255 events".to_string());

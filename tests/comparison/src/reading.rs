@@ -26,16 +26,20 @@ pub fn reader(run: &mut Run, seed: u64, number: u64) -> Result<(), String> {
     input(run, &case, &case.bytes)?;
     raw_items(run, &case, &case.bytes)?;
     text(run, &case, &case.bytes)?;
-    if number % 32 != 0 || case.bytes.len() > 400 {
+    if !number.is_multiple_of(32) || case.bytes.len() > 400 {
         return Ok(());
     }
     for cut in every_cut(&case.bytes) {
         input(run, &format_args!("{case}, cut to {} bytes", cut.len()), cut)?;
     }
+    flips(run, &case, number.is_multiple_of(512))
+}
+
+fn flips(run: &mut Run, case: &ReaderCase, listed: bool) -> Result<(), String> {
     for (bit, flipped) in every_flip(&case.bytes).enumerate() {
         let what = format_args!("{case}, bit {bit} flipped");
         input(run, &what, &flipped)?;
-        if number % 512 == 0 {
+        if listed {
             text(run, &what, &flipped)?;
         }
     }
@@ -96,18 +100,29 @@ fn read(
     Err(format!("{what}: the reading does not end\n"))
 }
 
-/// The samples of each raw item, into room that is one or two short, just enough, and more.
+/// The samples of each raw item of the first block.
 fn raw_items(run: &mut Run, what: &dyn Display, bytes: &[u8]) -> Result<(), String> {
     let words = words_of_bytes(bytes).unwrap_or_default();
     let (mut scan, mut record) = ([0; 6], [0; RECORD]);
     while Library.next(&mut scan, &words, &mut record) >> 32 == 0 && record[0] != END {
         let [kind, .., place, pairs] = record;
-        let most = 2 * pairs as usize; // or one fewer
-        let rooms = [most.saturating_sub(2), most.saturating_sub(1), most, most + 1];
-        let raw = matches!(kind, WINDOW | PULSE_RAW);
-        for room in rooms.into_iter().filter(|_| raw) {
-            samples(run, what, &words, (place as u32, pairs as u32), &vec![OLD.into(); room])?;
+        if matches!(kind, WINDOW | PULSE_RAW) {
+            raw_item(run, what, &words, (place as u32, pairs as u32))?;
         }
+    }
+    Ok(())
+}
+
+/// Into room that is one or two short, just enough, and more.
+fn raw_item(
+    run: &mut Run,
+    what: &dyn Display,
+    words: &[u32],
+    part: (u32, u32),
+) -> Result<(), String> {
+    let most = 2 * part.1 as usize; // or one fewer
+    for room in [most.saturating_sub(2), most.saturating_sub(1), most, most + 1] {
+        samples(run, what, words, part, &vec![OLD.into(); room])?;
     }
     Ok(())
 }

@@ -61,6 +61,16 @@ impl Table {
         calls.iter().flat_map(|&call| self.0[call as usize]).sum()
     }
 
+    fn row(&self, row: usize, answers: &[u64]) -> String {
+        let (name, can) = CALLS[row];
+        let cell = |answer: &u64| match can.contains(answer) {
+            true => format!("{:>8}", self.0[row][*answer as usize]),
+            false => format!("{:>8}", ""),
+        };
+        let cells: String = answers.iter().map(cell).collect();
+        format!("{name:<10}{}\n", cells.trim_end())
+    }
+
     /// The first answer that can come and did not.
     pub fn missing(&self) -> Result<(), String> {
         for ((name, can), met) in CALLS.iter().zip(&self.0) {
@@ -77,16 +87,9 @@ impl fmt::Display for Table {
     fn fmt(&self, f: &mut fmt::Formatter) -> fmt::Result {
         for (answers, rows) in PARTS {
             let head: String = answers.iter().map(|answer| format!("{answer:>8}")).collect();
-            writeln!(f, "{:<10}{head}", "answer")?;
-            let all = CALLS.iter().zip(&self.0).take(rows.end).skip(rows.start);
-            for ((name, can), met) in all.filter(|(_, met)| met.iter().sum::<u64>() > 0) {
-                let cell = |answer: &u64| match can.contains(answer) {
-                    true => format!("{:>8}", met[*answer as usize]),
-                    false => format!("{:>8}", ""),
-                };
-                let cells: String = answers.iter().map(cell).collect();
-                writeln!(f, "{name:<10}{}", cells.trim_end())?;
-            }
+            let made = rows.filter(|&row| self.0[row].iter().sum::<u64>() > 0);
+            let body: String = made.map(|row| self.row(row, answers)).collect();
+            write!(f, "{:<10}{head}\n{body}", "answer")?;
         }
         Ok(())
     }
