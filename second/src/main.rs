@@ -1,7 +1,7 @@
 //! The command line of the second opinion.
 
 use second::cases::{
-    limit_case, FinderCase, ReaderCase, SamplesCase, ScanCase, SequenceCase, LIMIT_CASES, SEED,
+    limit_case, FinderCase, ReaderCase, SamplesCase, ScanCase, SequenceCase, SEED,
 };
 use second::{calls, lister};
 use std::io::{self, Read, Write};
@@ -66,7 +66,7 @@ fn case(kind: &str, seed: u64, of: u64, full: bool) -> String {
         "sequence" => show(SequenceCase::new(seed, of), full),
         "reader" | "lister" => show(ReaderCase::new(seed, of), full),
         // A case of 16 MB is not shown in full.
-        "limit" if of < LIMIT_CASES => show(limit_case(of), false),
+        "limit" => show(limit_case(of), false),
         "scan" => show(ScanCase::new(seed, of), full),
         "samples" => show(SamplesCase::new(seed, of), full),
         _ => String::new(),

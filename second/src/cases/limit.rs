@@ -48,7 +48,7 @@ pub fn limit_cases() -> impl Iterator<Item = ReaderCase> {
 
 /// One of them; there is no seed to it.
 pub fn limit_case(number: u64) -> ReaderCase {
-    let (kind, before, end) = ends()[number as usize].clone();
+    let (kind, before, end) = ends()[(number % LIMIT_CASES) as usize].clone();
     let event = |word: &u32| tag(*word) == Some(words::EVENT_HEADER);
     let events = 1 + u32::from(end.first().is_some_and(event) && before > 0);
     let mut block = vec![words::block_header(SLOT, 1, events), words::event_header(SLOT, 9)];

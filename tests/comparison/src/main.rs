@@ -135,7 +135,9 @@ fn main() -> ExitCode {
         }
     };
     print!("{}", run.met);
-    println!("longest event {} words, most events {}", run.longest_event, run.most_events);
+    if run.longest_event > 0 {
+        println!("longest event {} words, most events {}", run.longest_event, run.most_events);
+    }
     match result {
         Ok(seed) => {
             println!("seed {seed}: {}", said(&run));

@@ -89,7 +89,9 @@ impl fmt::Display for Table {
             let head: String = answers.iter().map(|answer| format!("{answer:>8}")).collect();
             let made = rows.filter(|&row| self.0[row].iter().sum::<u64>() > 0);
             let body: String = made.map(|row| self.row(row, answers)).collect();
-            write!(f, "{:<10}{head}\n{body}", "answer")?;
+            if !body.is_empty() {
+                write!(f, "{:<10}{head}\n{body}", "answer")?;
+            }
         }
         Ok(())
     }
