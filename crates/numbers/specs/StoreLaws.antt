@@ -1,6 +1,6 @@
 -- Loading and storing, part by part. Assumes nothing.
 use Prim.Native.Nat.{ℕ, _%_, _-_, _≤_}
-use mathlib.Core.Path.{_≡_, refl, sym, ap, ap₂, _∙_}
+use mathlib.Core.Path.{_≡_, sym, ap, ap₂, _∙_}
 use mathlib.Core.Bool.{Bool, true, false, _&&_}
 use mathlib.Core.List.{List, _∷_, [], _++_}
 use native.Mathlib.Omega.{arith}

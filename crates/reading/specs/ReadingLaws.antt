@@ -1,6 +1,6 @@
 -- The answers of a call, case by case; and that two results allowed by its statement are equal. Assumes nothing.
 use Prim.Native.Nat.{ℕ, _+_, _≤_, _<_}
-use mathlib.Core.Path.{_≡_, refl, sym, ap, _∙_}
+use mathlib.Core.Path.{_≡_, ap, _∙_}
 use mathlib.Core.Bool.{true, false, cond}
 use mathlib.Core.List.{List}
 use borrow.Author.Tests.{lt-leb, le-leb}
@@ -15,8 +15,8 @@ use Rattle.records.specs.declared.answer.Next.the-variants as N
 use Rattle.records.specs.Next.{nextAt}
 use Rattle.scan.specs.declared.Scan.{Scan}
 use Rattle.cursors.specs.Cursors.{isScan, scanFrom, scanStored}
-use Rattle.cells.specs.Cells.{recordCount, recordNumbers, endNumbers, noNumbers}
-use Rattle.reading.specs.Reading.{badAnswer, roomFor, toldBy, recordOf, filled, NextFace}
+use Rattle.cells.specs.Cells.{recordCount, recordNumbers, noNumbers}
+use Rattle.reading.specs.Reading.{badAnswer, roomFor, filled, NextFace}
 use Rattle.reading.specs.Inner.{Told}
 
 -- ---- filling in
