@@ -53,6 +53,7 @@ use Rattle.rawsamples.proofs as rawsamples
 use Rattle.rawsamples.specs.RawSamplesLaws.{one-unpacking}
 use Rattle.follow.proofs as follow
 use Rattle.records.proofs as records
+use Rattle.copies.proofs as copies
 use Rattle.numbers.proofs as numbers
 use Rattle.bytecheck.proofs as bytecheck
 use Rattle.host.proofs as host
@@ -581,6 +582,13 @@ pub fadc250-check-unique : Unique host.fadc250_check.ended host.fadc250_check.Re
 fadc250-check-unique κs a r s u v p q = by-equation p q
 
 -- ---- from C
+
+-- copies
+pub put32-unique : Unique copies.put32.ended copies.put32.Reads.Learnt
+put32-unique κs a r s u v p q = (refl, λ i. (one-result p q i, u .1))
+
+pub put64-unique : Unique copies.put64.ended copies.put64.Reads.Learnt
+put64-unique κs a r s u v p q = (refl, λ i. (one-result p q i, u .1))
 
 -- numbers
 pub is-settings-unique : Unique numbers.held.is_settings.ended numbers.held.is_settings.Reads.Learnt

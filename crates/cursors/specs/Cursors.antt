@@ -4,7 +4,7 @@ use mathlib.Core.Bool.{Bool, cond, _&&_}
 use mathlib.Core.List.{List, [], _∷_}
 use lib.Dec.{eqb, leb}
 use lib.ListN.{length, getD}
-use Rattle.ground.specs.Splice.{splice}
+use Rattle.copies.specs.Copies.{pasted}
 use Rattle.scan.specs.declared.Stage.{Stage}
 use Rattle.scan.specs.declared.Stage.the-variants as P
 use Rattle.scan.specs.declared.Scan.{Scan}
@@ -111,4 +111,4 @@ scanFrom n =
 -- ---- what storing leaves of the numbers n: a scan over their front; fewer stay as they were
 
 abbrev pub scanStored : List ℕ → Scan → List ℕ
-scanStored n s = cond (leb scanCount (length n)) (splice n 0 (cursorOf s)) n
+scanStored n s = pasted n 0 (cursorOf s)

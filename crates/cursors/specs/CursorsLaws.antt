@@ -1,15 +1,16 @@
 -- Loading and storing a scan, and that a scan comes back from its numbers. Assumes nothing.
-use Prim.Native.Nat.{ℕ, zero, suc, _≤_, _<_}
+use Prim.Native.Nat.{ℕ, zero, suc, _≤_}
 use mathlib.Core.Path.{_≡_, refl, ap, _∙_}
 use mathlib.Core.Bool.{true, false, _&&_}
 use mathlib.Core.List.{List, [], _∷_}
 use native.Mathlib.Omega.{arith}
-use borrow.Author.Tests.{lt-leb, le-leb, eqb-true}
+use borrow.Author.Tests.{eqb-true}
 use lib.Dec.{eqb, leb}
 use lib.ListN.{length, getD, replicate}
-use Rattle.ground.specs.Splice.{splice}
 use Rattle.ground.specs.SpliceLaws.{splice-all}
 use Rattle.ground.specs.TestsLaws.{and-left}
+use Rattle.copies.specs.Copies.{pasted}
+use Rattle.copies.specs.CopiesLaws.{pasted-fits}
 use Rattle.scan.specs.After.{startOf}
 use Rattle.scan.specs.declared.Stage.{Stage}
 use Rattle.scan.specs.declared.Stage.the-variants as P
@@ -47,11 +48,8 @@ pub cursor-made : (s : Scan) {number first second : ℕ} → number ≡ stageNum
 unfolding cursorOf
 cursor-made s e f g = rw (e, f, g)
 
-pub scan-short : (n : List ℕ) (s : Scan) → length n < scanCount → n ≡ scanStored n s
-scan-short n s h = rw (lt-leb _ _ h)
-
-pub scan-stored : (n : List ℕ) (s : Scan) {c n′ : List ℕ} → scanCount ≤ length n → c ≡ cursorOf s → n′ ≡ splice n 0 c → n′ ≡ scanStored n s
-scan-stored n s k e f = rw (le-leb _ _ k) (f ∙ ap (splice n 0) e)
+pub scan-stored : (n : List ℕ) (s : Scan) {c n′ : List ℕ} → c ≡ cursorOf s → n′ ≡ pasted n 0 c → n′ ≡ scanStored n s
+scan-stored n s e f = f ∙ ap (pasted n 0) e
 
 -- ---- there and back
 
@@ -63,7 +61,7 @@ scan-count n e = eqb-true _ _ (and-left _ _ (and-left _ _ e))
 -- over so many numbers a scan's stand alone
 pub scan-over : (n : List ℕ) (s : Scan) → isScan n ≡ true → scanStored n s ≡ cursorOf s
 unfolding cursorOf
-scan-over n s e = let k = scan-count n e in rw (le-leb scanCount (length n) (omega arith)) (splice-all n (cursorOf s) (omega arith))
+scan-over n s e = let k = scan-count n e in pasted-fits n 0 (cursorOf s) (omega arith) ∙ splice-all n (cursorOf s) (omega arith)
 
 module _ (place slot left : ℕ) where
   scanAt : Stage → Scan

@@ -1,8 +1,6 @@
 // Where the reading of a block stands, as numbers that C lends: asked for, loaded, stored.
 ghost use mathlib.Core.Path.{_≡_};
-ghost use Prim.Native.Nat.{_≤_};
-ghost use lib.ListN.{length, getD};
-ghost use Rattle.ground.specs.Splice.{splice};
+ghost use lib.ListN.{getD};
 ghost use Rattle.cursors.specs.Cursors.{bitOf, stageNumber, stageFirst, stageSecond, cursorOf, isScan, stageFrom, scanFrom, scanStored};
 use scan::Scan;
 use scan::Stage;
@@ -141,25 +139,10 @@ fn cursor_of(scan: Scan) -> [u32; SCAN]
     [scan.place, scan.slot, scan.left, number, first, second]
 }
 
-// Copies `new` over the front of the numbers.
-fn put_front(numbers: &mut [u32], new: &[u32])
-    requires { ⌜ length (now new) ≤ length (now numbers) ⌝ }
-    ensures { λ _. ⌜ now (numbers .exit) ≡ splice (now (numbers .entry)) 0 (now (new .entry)) ⌝ }
-{
-    let mut i = 0;
-    while i < new.len() {
-        numbers[i] = new[i];
-        i += 1;
-    }
-}
-
 // Stores a scan; fewer numbers than it has stay, and so do those past them.
 pub fn put_scan(numbers: &mut [u32], scan: Scan)
     ensures { λ _. ⌜ now (numbers .exit) ≡ scanStored (now (numbers .entry)) scan ⌝ }
 {
-    if numbers.len() < SCAN {
-        return;
-    }
     let cursor = cursor_of(scan);
-    put_front(numbers, &cursor);
+    copies::put32(numbers, 0, &cursor);
 }

@@ -6,9 +6,12 @@ use mathlib.Core.List.{List, _++_}
 use native.Mathlib.Omega.{arith}
 use borrow.Author.Tests.{eq-eqb, ne-eqb, eqb-true}
 use lib.Dec.{eqb}
-use lib.ListN.{length, drop, replicate}
+use lib.ListN.{length, drop, replicate, length-replicate}
 use Rattle.ground.specs.Splice.{splice}
+use Rattle.ground.specs.SpliceLaws.{splice-all}
 use Rattle.ground.specs.Tests.{firstOf}
+use Rattle.copies.specs.Copies.{pasted}
+use Rattle.copies.specs.CopiesLaws.{pasted-fits}
 use Rattle.settings.specs.declared.Settings.{Settings}
 use Rattle.settings.specs.Ranges.{ranges, settingsOk}
 use Rattle.refusals.specs.Refusal.{numberOf, badArray}
@@ -120,11 +123,13 @@ module _ (m n : List ℕ) {s : Settings} {a : Answer} (f : s ≡ settingsOrNone 
   pub set-up-other : {r : ℕ} → r ≡ orElse (numberOf (a .refusal)) badArray → (length n ≡ stateCount → ⊥) → SetUpFace m n r n
   set-up-other g k = record { number = rw (ne-eqb _ _ k) (g ∙ sym (first-number badArray)); numbers = rw (ne-eqb _ _ k) }
 
-  pub set-up-refused : {r : ℕ} {n′ : List ℕ} → length n ≡ stateCount → eqb (numberOf (a .refusal)) 0 ≡ false → n′ ≡ replicate (length n) 0 → r ≡ numberOf (a .refusal) → SetUpFace m n r n′
+  pub set-up-refused : {r : ℕ} {n′ : List ℕ} → length n ≡ stateCount → eqb (numberOf (a .refusal)) 0 ≡ false → n′ ≡ pasted n 0 (replicate stateCount 0) → r ≡ numberOf (a .refusal) → SetUpFace m n r n′
   set-up-refused k h e g =
+      let zeros : List ℕ = replicate stateCount 0 in
+      let whole : length zeros ≡ length n = length-replicate {A = ℕ} stateCount 0 ∙ sym k in
       record {
         number = rw (eq-eqb _ _ k) (g ∙ sym (first-number 0 ∙ none-later (numberOf (a .refusal))));
-        numbers = rw (eq-eqb _ _ k, ap (λ (j : ℕ). eqb j 0) g ∙ h) (e ∙ ap (λ (j : ℕ). replicate j 0) k);
+        numbers = rw (eq-eqb _ _ k, ap (λ (j : ℕ). eqb j 0) g ∙ h) (e ∙ pasted-fits n 0 zeros (omega arith) ∙ splice-all n zeros whole);
       }
 
   pub set-up-face : {n′ : List ℕ} → eqb (numberOf (a .refusal)) 0 ≡ true → length n ≡ stateCount → n′ ≡ stateStored n (a .state) m → SetUpFace m n 0 n′

@@ -12,6 +12,8 @@ use Rattle.limits.specs.LimitsLaws.{most-samples}
 use Rattle.ground.specs.Splice.{splice}
 use Rattle.ground.specs.Tests.{firstOf}
 use Rattle.ground.specs.SpliceLaws.{splice-splice, length-splice}
+use Rattle.copies.specs.Copies.{pasted}
+use Rattle.copies.specs.CopiesLaws.{pasted-fits}
 use Rattle.settings.specs.declared.Settings.{Settings}
 use Rattle.refusals.specs.Refusal.{numberOf, badArray}
 use Rattle.refusals.specs.declared.Refusal.the-variants as R
@@ -93,24 +95,34 @@ found-or-zeros s c w = go (eqb (findNumber s c w) 0) refl
     go true e = refl
     go false e = sym (ap (λ (l : List Pulse). foundNumbers (packed l)) (found-none s c w e) ∙ none-zeros)
 
+-- a copy that has room
+put-run : (l : List ℕ) (at : ℕ) (new : List ℕ) {x l′ : List ℕ} → x ≡ new → l′ ≡ pasted l at x → at + length new ≤ length l → (l′ ≡ splice l at new) × (length l′ ≡ length l)
+put-run l at new e f h =
+    let g = f ∙ ap (pasted l at) e ∙ pasted-fits l at new h in
+    (g, ap length g ∙ length-splice l at new h)
+
 -- four writings behind each other are one
 pub found-put : (out : List ℕ) (found : Pulses) {o p q r a b c : List ℕ} → foundCount ≤ length out → a ≡ pulseRow found 0 → b ≡ pulseRow found 1 → c ≡ pulseRow found 2
-    → o ≡ splice out 0 (found .count ∷ []) → p ≡ splice o 1 a → q ≡ splice p (1 + pulseCount) b → r ≡ splice q (1 + 2 * pulseCount) c → r ≡ splice out 0 (foundNumbers found)
+    → o ≡ pasted out 0 (found .count ∷ []) → p ≡ pasted o 1 a → q ≡ pasted p (1 + pulseCount) b → r ≡ pasted q (1 + 2 * pulseCount) c → r ≡ splice out 0 (foundNumbers found)
 unfolding foundNumbers
-found-put out found h ea eb ec eo ep eq er =
+found-put out found {o = o} {p = p} {q = q} h ea eb ec eo ep eq er =
     let one = found .count ∷ [] in
     let a = pulseRow found 0 in
     let b = pulseRow found 1 in
     let c = pulseRow found 2 in
     let at-b : 1 + length a ≡ 1 + pulseCount = omega (arith, row-count found 0) in
     let at-c : 1 + length (a ++ b) ≡ 1 + 2 * pulseCount = omega (arith, length-append a b, row-count found 0, row-count found 1) in
+    let put-o = put-run out 0 one refl eo (omega arith) in
+    let put-p = put-run o 1 a ea ep (omega (arith, row-count found 0)) in
+    let put-q = put-run p (1 + pulseCount) b eb eq (omega (arith, row-count found 1)) in
+    let put-r = put-run q (1 + 2 * pulseCount) c ec er (omega (arith, row-count found 2)) in
     let first : splice (splice out 0 one) 1 (a ++ (b ++ c)) ≡ splice out 0 (one ++ (a ++ (b ++ c))) = splice-splice out 0 one (a ++ (b ++ c)) (omega arith) in
     let base = splice out 0 one in
     let room : 1 ≤ length base = omega (arith, length-splice out 0 one (omega arith)) in
     let second : splice (splice base 1 a) (1 + pulseCount) b ≡ splice base 1 (a ++ b) = ap (λ (k : ℕ). splice (splice base 1 a) k b) (sym at-b) ∙ splice-splice base 1 a b room in
     let third : splice (splice base 1 (a ++ b)) (1 + 2 * pulseCount) c ≡ splice base 1 ((a ++ b) ++ c) = ap (λ (k : ℕ). splice (splice base 1 (a ++ b)) k c) (sym at-c) ∙ splice-splice base 1 (a ++ b) c room in
-    er
-    ∙ ap₂ (λ (x y : List ℕ). splice x (1 + 2 * pulseCount) y) (eq ∙ ap₂ (λ (x y : List ℕ). splice x (1 + pulseCount) y) (ep ∙ ap₂ (λ (x y : List ℕ). splice x 1 y) eo ea) eb) ec
+    put-r .0
+    ∙ ap (λ (x : List ℕ). splice x (1 + 2 * pulseCount) c) (put-q .0 ∙ ap (λ (x : List ℕ). splice x (1 + pulseCount) b) (put-p .0 ∙ ap (λ (x : List ℕ). splice x 1 a) (put-o .0)))
     ∙ ap (λ (x : List ℕ). splice x (1 + 2 * pulseCount) c) second
     ∙ third
     ∙ ap (λ (x : List ℕ). splice base 1 x) (append-assoc a b c)

@@ -1,7 +1,6 @@
 // The calls that C makes: the numbers are loaded, the call is made, and an accepted one stores them back. Numbers that are no
 // state are loaded as what stands for none, which the call refuses with 10.
 ghost use mathlib.Core.Path.{_≡_};
-ghost use lib.ListN.{length, replicate};
 ghost use Rattle.refusals.specs.Refusal.{numberOf};
 ghost use Rattle.host.specs.Face.{SetUpFace, OpenBlockFace, OpenEventFace, PostFace, CloseFace, FinishFace, inHigh};
 ghost use Rattle.host.specs.Inner.{Kept};
@@ -14,17 +13,6 @@ use refusals::Refusal;
 use state::State;
 use writer::Answer;
 
-// Zeros, which no call takes for a state.
-fn put_zeros(numbers: &mut [u64])
-    ensures { λ _. ⌜ now (numbers .exit) ≡ replicate (length (now (numbers .entry))) 0 ⌝ }
-{
-    let mut i = 0;
-    while i < numbers.len() {
-        numbers[i] = 0;
-        i += 1;
-    }
-}
-
 #[no_mangle]
 pub extern "C" fn fadc250_set_up(settings: &[u64], state: &mut [u64]) -> u32
     ensures { λ r. ⌜ SetUpFace (now (settings .entry)) (now (state .entry)) r (now (state .exit)) ⌝ }
@@ -36,7 +24,9 @@ pub extern "C" fn fadc250_set_up(settings: &[u64], state: &mut [u64]) -> u32
         return or_bad_array(refusal);
     }
     if !refusals::accepted(refusal) {
-        put_zeros(state);
+        // no call takes zeros for a state
+        let zeros: [u64; numbers::STATE] = [0; numbers::STATE];
+        copies::put64(state, 0, &zeros);
         return refusals::number(refusal);
     }
     let new = answer.state;

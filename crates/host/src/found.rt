@@ -1,6 +1,6 @@
 // The finder's call: the pulses found, as numbers that the host lends.
 ghost use mathlib.Core.Path.{_≡_};
-ghost use Prim.Native.Nat.{_+_, _<_, _≤_};
+ghost use Prim.Native.Nat.{_<_, _≤_};
 ghost use lib.ListN.{length};
 ghost use Rattle.ground.specs.Splice.{splice};
 ghost use Rattle.host.specs.Face.{pulseNumbers, pulseRow, foundCount, foundNumbers, FindFace};
@@ -54,18 +54,6 @@ fn pulse_row(found: Pulses, place: usize) -> [u32; PULSE]
     [0; PULSE]
 }
 
-// Copies `new` into the numbers from a place on.
-fn put_at(out: &mut [u32], at: usize, new: &[u32])
-    requires { ⌜ at + length (now new) ≤ length (now out) ⌝ }
-    ensures { λ _. ⌜ now (out .exit) ≡ splice (now (out .entry)) at (now (new .entry)) ⌝ }
-{
-    let mut i = 0;
-    while i < new.len() {
-        out[at + i] = new[i];
-        i += 1;
-    }
-}
-
 // The count, then the numbers of each place.
 fn put_found(out: &mut [u32], found: Pulses)
     requires { ⌜ (foundCount ≤ length (now out)) × AllSmall found ⌝ }
@@ -75,10 +63,10 @@ fn put_found(out: &mut [u32], found: Pulses)
     let first = pulse_row(found, 0);
     let second = pulse_row(found, 1);
     let third = pulse_row(found, 2);
-    put_at(out, 0, &count);
-    put_at(out, FIRST, &first);
-    put_at(out, SECOND, &second);
-    put_at(out, THIRD, &third);
+    copies::put32(out, 0, &count);
+    copies::put32(out, FIRST, &first);
+    copies::put32(out, SECOND, &second);
+    copies::put32(out, THIRD, &third);
 }
 
 #[no_mangle]

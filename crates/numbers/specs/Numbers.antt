@@ -4,7 +4,7 @@ use mathlib.Core.Bool.{Bool, true, false, cond, _&&_}
 use mathlib.Core.List.{List, [], _∷_, _++_}
 use lib.Dec.{eqb, leb}
 use lib.ListN.{length, getD, take, drop, replicate}
-use Rattle.ground.specs.Splice.{splice}
+use Rattle.copies.specs.Copies.{pasted}
 use Rattle.settings.specs.declared.Settings.{Settings}
 use Rattle.state.specs.declared.Phase.{Phase}
 use Rattle.state.specs.declared.Phase.the-variants.{Idle, Block, Event}
@@ -200,7 +200,7 @@ numbersOf s = headOf s ++ settingsNumbers (s .settings)
 
 -- a state's head over their front; fewer stay as they were
 abbrev pub headStored : List ℕ → State → List ℕ
-headStored n s = cond (leb headCount (length n)) (splice n 0 (headOf s)) n
+headStored n s = pasted n 0 (headOf s)
 
 -- a state whole, its settings given as their numbers; where either are not as many as they should be, n stay as they were
 abbrev pub stateStored : List ℕ → State → List ℕ → List ℕ

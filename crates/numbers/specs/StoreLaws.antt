@@ -1,15 +1,17 @@
 -- Loading and storing, part by part. Assumes nothing.
-use Prim.Native.Nat.{ℕ, _+_, _%_, _-_, _≤_, _<_}
-use mathlib.Core.Path.{_≡_, refl, sym, ap, ap₂, _∙_}
+use Prim.Native.Nat.{ℕ, _%_, _-_, _≤_}
+use mathlib.Core.Path.{_≡_, sym, ap, ap₂, _∙_}
 use mathlib.Core.Bool.{Bool, true, false, _&&_}
 use mathlib.Core.List.{List, _∷_, [], _++_}
 use native.Mathlib.Omega.{arith}
-use borrow.Author.Tests.{lt-leb, le-leb, eq-eqb, ne-eqb}
+use borrow.Author.Tests.{eq-eqb, ne-eqb}
 use lib.Dec.{eqb}
 use lib.ListN.{length, getD, take, drop, length-drop}
 use lib.Seq.{take-all}
 use Rattle.ground.specs.Splice.{splice}
 use Rattle.ground.specs.SpliceLaws.{splice-front, length-splice, row-same}
+use Rattle.copies.specs.Copies.{pasted}
+use Rattle.copies.specs.CopiesLaws.{pasted-fits}
 use Rattle.settings.specs.declared.Settings.{Settings}
 use Rattle.state.specs.declared.Phase.{Phase}
 use Rattle.state.specs.declared.State.{State}
@@ -84,16 +86,13 @@ pub head-made : (s : State) {phase marks : ℕ} → phase ≡ phaseNumber (s .ph
 unfolding headOf
 head-made s p m = rw (p, m)
 
-pub head-short : (n : List ℕ) (s : State) → length n < headCount → n ≡ headStored n s
-head-short n s h = rw (lt-leb _ _ h)
-
-pub head-stored : (n : List ℕ) (s : State) {h n′ : List ℕ} → headCount ≤ length n → h ≡ headOf s → n′ ≡ splice n 0 h → n′ ≡ headStored n s
-head-stored n s k e f = rw (le-leb _ _ k) (f ∙ ap (splice n 0) e)
+pub head-stored : (n : List ℕ) (s : State) {h n′ : List ℕ} → h ≡ headOf s → n′ ≡ pasted n 0 h → n′ ≡ headStored n s
+head-stored n s e f = f ∙ ap (pasted n 0) e
 
 -- the head over the front of those that are long enough
 pub head-over : (n : List ℕ) (s : State) → headCount ≤ length n → headStored n s ≡ headOf s ++ drop headCount n
 unfolding headOf
-head-over n s h = rw (le-leb _ _ h) (splice-front n (headOf s))
+head-over n s h = pasted-fits n 0 (headOf s) h ∙ splice-front n (headOf s)
 
 pub state-other : (n : List ℕ) (s : State) (m : List ℕ) → (length n ≡ stateCount → ⊥) → n ≡ stateStored n s m
 state-other n s m h = rw (ne-eqb _ _ h)
@@ -103,8 +102,9 @@ settings-other n s m h k = rw (eq-eqb _ _ h, ne-eqb _ _ k)
 
 -- the settings behind the head, then the head over the front
 pub state-stored : (n : List ℕ) (s : State) (m : List ℕ) {p n′ : List ℕ} → length n ≡ stateCount → length m ≡ settingsCount
-    → p ≡ splice n headCount m → n′ ≡ headStored p s → n′ ≡ stateStored n s m
-state-stored n s m {p = p} h k e f =
+    → p ≡ pasted n headCount m → n′ ≡ headStored p s → n′ ≡ stateStored n s m
+state-stored n s m {p = p} h k o f =
+    let e : p ≡ splice n headCount m = o ∙ pasted-fits n headCount m (omega arith) in
     let long : length p ≡ length n = ap length e ∙ length-splice n headCount m (omega arith) in
     let rest : drop headCount p ≡ m =
     sym (take-all (length m) (drop headCount p) (rw (length-drop headCount p) (omega arith)))

@@ -1,8 +1,7 @@
 // The numbers of a state, stored.
 ghost use mathlib.Core.Path.{_≡_};
-ghost use Prim.Native.Nat.{_+_, _≤_};
+ghost use Prim.Native.Nat.{_≤_};
 ghost use lib.ListN.{length};
-ghost use Rattle.ground.specs.Splice.{splice};
 ghost use Rattle.numbers.specs.Numbers.{markBit, phaseNumber, marksNumber, headOf, headStored, stateStored};
 use crate::HEAD;
 use crate::SETTINGS;
@@ -60,27 +59,12 @@ fn head_of(state: State) -> [u64; HEAD]
     ]
 }
 
-// Copies `new` into the numbers from a place on.
-fn put_at(numbers: &mut [u64], at: usize, new: &[u64])
-    requires { ⌜ at + length (now new) ≤ length (now numbers) ⌝ }
-    ensures { λ _. ⌜ now (numbers .exit) ≡ splice (now (numbers .entry)) at (now (new .entry)) ⌝ }
-{
-    let mut i = 0;
-    while i < new.len() {
-        numbers[at + i] = new[i];
-        i += 1;
-    }
-}
-
 // Stores a state's head; the settings behind it stay.
 pub fn put_head(numbers: &mut [u64], state: State)
     ensures { λ _. ⌜ now (numbers .exit) ≡ headStored (now (numbers .entry)) state ⌝ }
 {
-    if numbers.len() < HEAD {
-        return;
-    }
     let head = head_of(state);
-    put_at(numbers, 0, &head);
+    copies::put64(numbers, 0, &head);
 }
 
 // Stores a state whole: its head, then the settings as they came.
@@ -93,6 +77,6 @@ pub fn put_state(numbers: &mut [u64], state: State, settings: &[u64])
     if settings.len() != SETTINGS {
         return;
     }
-    put_at(numbers, HEAD, settings);
+    copies::put64(numbers, HEAD, settings);
     put_head(numbers, state);
 }

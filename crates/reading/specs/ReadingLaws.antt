@@ -1,12 +1,14 @@
 -- The answers of a call, case by case; and that two results allowed by its statement are equal. Assumes nothing.
-use Prim.Native.Nat.{ℕ, _≤_, _<_}
+use Prim.Native.Nat.{ℕ, _+_, _≤_, _<_}
 use mathlib.Core.Path.{_≡_, ap, _∙_}
-use mathlib.Core.Bool.{true, false}
+use mathlib.Core.Bool.{true, false, cond}
 use mathlib.Core.List.{List}
 use borrow.Author.Tests.{lt-leb, le-leb}
+use lib.Dec.{leb}
 use lib.ListN.{length}
 use Rattle.ground.specs.Splice.{splice}
 use Rattle.ground.specs.ResultLaws.{one-result}
+use Rattle.copies.specs.Copies.{pasted}
 use Rattle.records.specs.declared.answer.Record.{Record}
 use Rattle.records.specs.declared.answer.Next.{Next}
 use Rattle.records.specs.declared.answer.Next.the-variants as N
@@ -28,11 +30,10 @@ room-long out h = le-leb _ _ h
 pub fill-short : (out new : List ℕ) → length out < recordCount → out ≡ filled out new
 fill-short out new h = rw (room-short out h)
 
-pub fill-long : (out new : List ℕ) {m out′ : List ℕ} → recordCount ≤ length out → m ≡ new → out′ ≡ splice out 0 m → out′ ≡ filled out new
-fill-long out new h e f = rw (room-long out h) (f ∙ ap (splice out 0) e)
-
-pub fill-by : (out : List ℕ) {m new out′ : List ℕ} → m ≡ new → out′ ≡ filled out m → out′ ≡ filled out new
-fill-by out e f = f ∙ ap (filled out) e
+-- a record's numbers have room where so many are lent as a record has
+pub fill-by : (out : List ℕ) {m new out′ : List ℕ} → m ≡ new → out′ ≡ pasted out 0 m → length m ≡ recordCount → out′ ≡ filled out new
+fill-by out {m = m} e f k =
+    f ∙ ap (λ (j : ℕ). cond (leb (0 + j) (length out)) (splice out 0 m) out) k ∙ ap (filled out) e
 
 -- ---- what was read
 
@@ -40,16 +41,15 @@ pub took-short : (n out : List ℕ) (x : Record) (u : Scan) → length out < rec
 took-short n out x u h =
     record { number = rw (room-short out h); numbers = rw (room-short out h); cells = fill-short out (recordNumbers x) h }
 
-pub took-long : (n out : List ℕ) (x : Record) (u : Scan) {m n′ out′ : List ℕ} → recordCount ≤ length out → m ≡ recordNumbers x → out′ ≡ splice out 0 m
-    → n′ ≡ scanStored n u → Told n out (N.Took x u) (u .place) n′ out′
-took-long n out x u h e f g =
-    record { number = rw (room-long out h); numbers = rw (room-long out h) g; cells = fill-long out (recordNumbers x) h e f }
+pub took-long : (n out : List ℕ) (x : Record) (u : Scan) {m n′ out′ : List ℕ} → recordCount ≤ length out → m ≡ recordNumbers x → out′ ≡ pasted out 0 m
+    → length m ≡ recordCount → n′ ≡ scanStored n u → Told n out (N.Took x u) (u .place) n′ out′
+took-long n out x u h e f k g =
+    record { number = rw (room-long out h); numbers = rw (room-long out h) g; cells = fill-by out e f k }
 
 -- ---- the call
 
-pub next-unscanned : (n words out : List ℕ) {r : ℕ} {out′ : List ℕ} → isScan n ≡ false → r ≡ badAnswer → out′ ≡ filled out noNumbers
-    → NextFace n words out r n out′
-next-unscanned n words out e f g = record { number = rw e f; numbers = rw e; cells = rw e g }
+pub next-unscanned : (n words out : List ℕ) {out′ : List ℕ} → isScan n ≡ false → out′ ≡ filled out noNumbers → NextFace n words out badAnswer n out′
+next-unscanned n words out e g = record { number = rw e; numbers = rw e; cells = rw e g }
 
 pub next-told : (n words out : List ℕ) {s : Scan} {x : Next} {r : ℕ} {n′ out′ : List ℕ} → isScan n ≡ true → s ≡ scanFrom n → x ≡ nextAt words s
     → Told n out x r n′ out′ → NextFace n words out r n′ out′

@@ -1,10 +1,7 @@
 // Reads a block from C, record by record: the scan's numbers are loaded, and an accepted call stores them and fills in the record's.
 ghost use mathlib.Core.Path.{_≡_};
-ghost use Prim.Native.Nat.{_≤_};
-ghost use lib.ListN.{length};
-ghost use Rattle.ground.specs.Splice.{splice};
 ghost use Rattle.cells.specs.Cells.{noNumbers};
-ghost use Rattle.reading.specs.Reading.{badAnswer, roomFor, toldBy, recordOf, filled, NextFace};
+ghost use Rattle.reading.specs.Reading.{roomFor, toldBy, recordOf, filled, NextFace};
 ghost use Rattle.reading.specs.Inner.{Told};
 use records::answer::Next;
 use records::answer::Record;
@@ -13,35 +10,12 @@ use scan::Scan;
 // What is answered where an array is not as the header says.
 const BAD_ANSWER: u64 = refusals::BAD_ARRAY as u64 * 4294967296;
 
-// Copies `new` over the front of the numbers.
-fn put_front(out: &mut [u64], new: &[u64])
-    requires { ⌜ length (now new) ≤ length (now out) ⌝ }
-    ensures { λ _. ⌜ now (out .exit) ≡ splice (now (out .entry)) 0 (now (new .entry)) ⌝ }
-{
-    let mut i = 0;
-    while i < new.len() {
-        out[i] = new[i];
-        i += 1;
-    }
-}
-
-// Fills in a record's numbers; fewer than they are stay.
-fn fill(out: &mut [u64], new: [u64; cells::RECORD])
-    ensures { λ _. ⌜ now (out .exit) ≡ filled (now (out .entry)) new ⌝ }
-{
-    if out.len() < new.len() {
-        return;
-    }
-    put_front(out, &new);
-}
-
-// No scan: no record is left of an older call.
-fn no_scan(out: &mut [u64]) -> u64
-    ensures { λ r. ⌜ (r ≡ badAnswer) × (now (out .exit) ≡ filled (now (out .entry)) noNumbers) ⌝ }
+// No record is left of an older call.
+fn clear(out: &mut [u64])
+    ensures { λ _. ⌜ now (out .exit) ≡ filled (now (out .entry)) noNumbers ⌝ }
 {
     let none = cells::no_numbers();
-    fill(out, none);
-    BAD_ANSWER
+    copies::put64(out, 0, &none);
 }
 
 // A record: with room for it, the scan moves behind it.
@@ -52,7 +26,7 @@ fn took(numbers: &mut [u32], out: &mut [u64], x: Record, after: Scan) -> u64
         return BAD_ANSWER;
     }
     let new = cells::record_numbers(x);
-    put_front(out, &new);
+    copies::put64(out, 0, &new);
     cursors::put_scan(numbers, after);
     after.place as u64
 }
@@ -65,7 +39,7 @@ fn ended(out: &mut [u64], words: u32) -> u64
         return BAD_ANSWER;
     }
     let end = cells::end_numbers();
-    put_front(out, &end);
+    copies::put64(out, 0, &end);
     words as u64
 }
 
@@ -73,8 +47,7 @@ fn ended(out: &mut [u64], words: u32) -> u64
 fn refused(out: &mut [u64], number: u32, place: u32) -> u64
     ensures { λ r. ⌜ (r ≡ toldBy (Next.Refused number place) (roomFor (now (out .entry)))) × (now (out .exit) ≡ filled (now (out .entry)) (recordOf (Next.Refused number place))) ⌝ }
 {
-    let none = cells::no_numbers();
-    fill(out, none);
+    clear(out);
     (number as u64) * 4294967296 + (place as u64)
 }
 
@@ -93,7 +66,8 @@ pub fn next(numbers: &mut [u32], words: &[u32], out: &mut [u64]) -> u64
     ensures { λ r. ⌜ NextFace (now (numbers .entry)) (now (words .entry)) (now (out .entry)) r (now (numbers .exit)) (now (out .exit)) ⌝ }
 {
     if !cursors::is_scan(numbers) {
-        return no_scan(out);
+        clear(out);
+        return BAD_ANSWER;
     }
     let scan = cursors::scan_from(numbers);
     let next = records::next(words, scan);

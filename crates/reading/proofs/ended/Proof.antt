@@ -1,6 +1,7 @@
 -- `reading::ended` meets its contract.
+use native.Mathlib.Omega.{arith}
 use borrow.Author.Needs.{needs}
-use Rattle.reading.specs.ReadingLaws.{room-short, room-long, fill-short, fill-long}
+use Rattle.reading.specs.ReadingLaws.{room-short, room-long, fill-short, fill-by}
 use Rattle.reading.proofs.ended.Statement.{statement}
 use Rattle.reading.proofs.ended.Tie as tie
 
@@ -12,7 +13,7 @@ returns-2 c =
     let end = c .before .before .before .before .before in
     let test = end .before in
     let out = test .before .before .args .out .now in
-    (rw (room-long out (test .if1 .left)), fill-long out _ (test .if1 .left) (end .end-numbers .ensures) (c .before .before .put-front .ensures))
+    (rw (room-long out (test .if1 .left)), fill-by out (end .end-numbers .ensures) (c .before .before .put64 .ensures) (omega arith))
 
 pub ended-spec : {M : Type 1} → statement M
 ended-spec =

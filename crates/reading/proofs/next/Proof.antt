@@ -8,11 +8,11 @@ use Rattle.reading.proofs.next.Tie as tie
 
 returns : tie.Need-returns
 returns c =
-    let none = c .before .before in
-    let test = none .before .before in
+    let cleared = c .before .before in
+    let test = cleared .before .before in
     let asked = test .before in
     let start = asked .before .before .before .before .before in
-    next-unscanned (start .args .numbers .now) (start .args .words .now) (start .args .out .now) (sym (asked .is-scan .ensures) ∙ not-true _ (test .if1 .taken)) (none .no-scan .ensures .0) (none .no-scan .ensures .1)
+    next-unscanned (start .args .numbers .now) (start .args .words .now) (start .args .out .now) (sym (asked .is-scan .ensures) ∙ not-true _ (test .if1 .taken)) (cleared .clear .ensures)
 
 returns-2 : tie.Need-returns-2
 returns-2 c =

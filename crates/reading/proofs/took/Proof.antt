@@ -1,4 +1,5 @@
 -- `reading::took` meets its contract.
+use native.Mathlib.Omega.{arith}
 use borrow.Author.Needs.{needs}
 use Rattle.reading.specs.ReadingLaws.{took-short, took-long}
 use Rattle.reading.proofs.took.Statement.{statement}
@@ -16,7 +17,7 @@ returns-2 c =
     let new = put .before .before .before in
     let test = new .before in
     let start = test .before .before .before in
-    took-long (start .args .numbers .now) (start .args .out .now) (start .args .x) (start .args .after) (test .if1 .left) (new .record-numbers .ensures) (put .put-front .ensures) (stored .put-scan .ensures)
+    took-long (start .args .numbers .now) (start .args .out .now) (start .args .x) (start .args .after) (test .if1 .left) (new .record-numbers .ensures) (put .put64 .ensures) (omega arith) (stored .put-scan .ensures)
 
 pub took-spec : {M : Type 1} → statement M
 took-spec =

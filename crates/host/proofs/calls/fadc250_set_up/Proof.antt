@@ -14,9 +14,9 @@ returns c =
 returns-2 : tie.Need-returns-2
 returns-2 c =
     let zeros = c .before .before .before in
-    let asked = zeros .before .before in
+    let asked = zeros .before .before .before in
     let made = asked .before .before .before in
-    set-up-refused _ _ (made .before .settings-or-none .ensures) (made .set-up .ensures) (asked .before .before .if1 .left) (sym (asked .before .accepted .ensures) ∙ not-true _ (asked .if2 .taken)) (zeros .put-zeros .ensures) (c .number .ensures)
+    set-up-refused _ _ (made .before .settings-or-none .ensures) (made .set-up .ensures) (asked .before .before .if1 .left) (sym (asked .before .accepted .ensures) ∙ not-true _ (asked .if2 .taken)) (zeros .put64 .ensures) (c .number .ensures)
 
 returns-3 : tie.Need-returns-3
 returns-3 c =
@@ -34,6 +34,7 @@ fadc250-set-up-spec =
     (λ c κs. search needs)
     returns
     (λ c κs. search needs)
+    (λ c. search needs)
     (λ c κs. search needs)
     (λ c κs. search needs)
     (λ c. search needs)

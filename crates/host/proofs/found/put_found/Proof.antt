@@ -16,7 +16,7 @@ returns c =
     let count = first .before .before .before .before .before in
     let rows = count .before .before .before in
     let start = rows .before .before .before .before .before in
-    found-put (start .args .out .now) (start .args .found) (start .pre .0) (rows .before .before .pulse-row .ensures) (rows .before .pulse-row2 .ensures) (rows .pulse-row3 .ensures) (count .put-at .ensures) (first .put-at2 .ensures) (second .put-at3 .ensures) (third .put-at4 .ensures)
+    found-put (start .args .out .now) (start .args .found) (start .pre .0) (rows .before .before .pulse-row .ensures) (rows .before .pulse-row2 .ensures) (rows .pulse-row3 .ensures) (count .put32 .ensures) (first .put322 .ensures) (second .put323 .ensures) (third .put324 .ensures)
 
 pub put-found-spec : {M : Type 1} → statement M
 put-found-spec =

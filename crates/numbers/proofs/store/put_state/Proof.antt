@@ -17,7 +17,7 @@ returns-3 c =
     let behind = c .before .before .before .before .before .before in
     let tests = behind .before .before in
     let start = tests .before .before .before .before in
-    state-stored (start .args .numbers .now) (start .args .state) (start .args .settings .now) (tests .before .if1 .left) (tests .if2 .left) (behind .put-at .ensures) (c .before .before .put-head .ensures)
+    state-stored (start .args .numbers .now) (start .args .state) (start .args .settings .now) (tests .before .if1 .left) (tests .if2 .left) (behind .put64 .ensures) (c .before .before .put-head .ensures)
 
 pub put-state-spec : {M : Type 1} → statement M
 put-state-spec =
