@@ -293,8 +293,8 @@ enum fadc250_stage {
     FADC250_STAGE_OPENED = 3, /* an event header */
     FADC250_STAGE_TIMED = 4,  /* a first time word; first: its bits 26-24 */
     FADC250_STAGE_ITEMS = 5,  /* a second time word or a whole item of an event (of type 4, 7, 8 or 10) */
-    FADC250_STAGE_WINDOW = 6, /* type 4 or one of its pairs; first: pairs to come; second: 1 if the last holds one
-                                 sample */
+    FADC250_STAGE_WINDOW = 6, /* type 4 or one of its pairs; first: pairs to come, 1 or more; second: 1 if the last
+                                 holds one sample */
     FADC250_STAGE_RAW = 7,    /* type 6 or one of its pairs; first: pairs that may still come; second: 1 if one was
                                  read */
     FADC250_STAGE_TAIL = 8    /* the trailer, a filler, or a module empty; first: fillers that may still come */
