@@ -4,8 +4,6 @@ use mathlib.Core.Path.{_≡_, refl, sym, ap, _∙_, subst}
 use mathlib.Core.Bool.{Bool, true, false, cond}
 use mathlib.Core.List.{List, [], _∷_, _++_}
 use native.Mathlib.Omega.{arith}
-use contract.Lifetimes.{Lfts}
-use denote.Ref.{now}
 use lib.ListN.{length, getD, take, drop, replicate, length-append}
 use lib.Seq.{drop-drop, take-at}
 use Rattle.ground.specs.Splice.{splice}
@@ -28,20 +26,13 @@ use Rattle.cursors.specs.CursorsLaws.{scan-over, scan-back, scan-is, start-zero
 use Rattle.cells.specs.Cells.{recordCount, kindOf, endKind, fieldNumbers, recordNumbers, endNumbers, noNumbers}
 use Rattle.cells.specs.SoundLaws.{took-sound}
 use Rattle.reading.specs.Reading.{badAnswer, roomFor, toldBy, scanLeft, recordOf, filled, NextFace}
-use Rattle.host.proofs as host
 use Rattle.layout.specs.NothingLost.{AllWords}
 use Rattle.layout.specs.FirstWrong.{placeOf, place-counts, place-small}
 use Rattle.layout.specs.WrongLaws.{first-wrong}
 use Rattle.claims.specs.Bytes.{bytesOfWords}
 use Rattle.claims.specs.CheckLaws.{check-bytes}
 use Rattle.claims.specs.ReadsLaws.{made-some, before-items, before-out}
-use Rattle.claims.specs.Ties.{Reference}
 use Rattle.claims.specs.ReadFromC.{scanAfter, NextCall, Gave, CReads, at-start, gave, gave-none, Recorded, none, another, ReadSoFar, ReadWhole, Stops}
-
--- what is supposed of a call is what C learns from its own `ensures`
-pub fadc250-next-tied : (κs : Lfts 3) (scan scan′ words out out′ : Reference) (r : ℕ)
-    → host.fadc250_next.Reads.Learnt κs (scan, (words, (out, tt))) r (scan′, (words, (out′, tt))) → NextFace (now scan) (now words) (now out) r (now scan′) (now out′)
-fadc250-next-tied κs scan scan′ words out out′ r p = p
 
 -- ---- one call
 

@@ -34,6 +34,7 @@ use Rattle.records.specs.Answers.{NextSays}
 use Rattle.host.proofs as host
 use Rattle.bytecheck.specs.Check.{checkNumber}
 use Rattle.host.specs.Face.{SetUpFace, OpenBlockFace, OpenEventFace, PostFace, CloseFace, FinishFace, FindFace}
+use Rattle.reading.specs.Reading.{NextFace}
 use Rattle.listing.proofs as listing
 use Rattle.listing.specs.declared.Listed.{Listed}
 use Rattle.listing.specs.Listing.{listingOf, longListingOf}
@@ -150,3 +151,7 @@ pub fadc250-samples-tied : (κs : Lfts 2) (words : Reference) (place pairs : ℕ
     → host.fadc250_samples.Reads.Learnt κs (words, (place, (pairs, (out, tt)))) r (words, (place, (pairs, (out′, tt))))
     → SamplesSay (samplesOf (partOf (now words) (record { place = place; count = pairs }))) (now out) r (now out′)
 fadc250-samples-tied κs words place pairs out out′ r p = p
+
+pub fadc250-next-tied : (κs : Lfts 3) (scan scan′ words out out′ : Reference) (r : ℕ)
+    → host.fadc250_next.Reads.Learnt κs (scan, (words, (out, tt))) r (scan′, (words, (out′, tt))) → NextFace (now scan) (now words) (now out) r (now scan′) (now out′)
+fadc250-next-tied κs scan scan′ words out out′ r p = p
