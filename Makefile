@@ -1,10 +1,11 @@
-# The library for C. `make` proves and builds the archive; `make install` copies it, with the header, a shared object,
-# the pkg-config file and the man page. Where the archive stands, installing needs a C compiler and no rt.
+# The library for C. `make` proves and builds the archive, of two objects: the crates host and hostread. `make install`
+# copies it, with the header, a shared object, the pkg-config file and the man page. Where the archive stands, installing
+# needs a C compiler and no rt.
 PREFIX = /usr/local
 LIBDIR = $(PREFIX)/lib
 INCLUDEDIR = $(PREFIX)/include
 MANDIR = $(PREFIX)/share/man
-ARCHIVE = target/staticlib/libhost.a
+ARCHIVE = target/libfadc250.a
 VERSION = $(shell sed -n 's/^.define FADC250_VERSION "\(.*\)"/\1/p' include/fadc250.h)
 # Only under its major version, so that -lfadc250 links the archive. Python's ctypes loads this one.
 SHARED = libfadc250.so.$(firstword $(subst ., ,$(VERSION)))
@@ -17,6 +18,10 @@ INSTALLED = $(LIBDIR)/libfadc250.a $(LIBDIR)/$(SHARED) $(LIBDIR)/pkgconfig/fadc2
 all:
 	@echo "proving the library and all that it leans on, then building it: some minutes the first time"
 	rt staticlib host
+	rt staticlib hostread
+	cd target && ar x staticlib/libhost.a && ar x staticlib/libhostread.a
+	rm -f $(ARCHIVE)
+	cd target && ar rcs libfadc250.a host.o hostread.o && rm host.o hostread.o
 
 $(ARCHIVE):
 	@$(MAKE) all

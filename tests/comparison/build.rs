@@ -1,8 +1,8 @@
-//! Links the archive that `rt staticlib host` wrote.
+//! Links the archive that `make` wrote.
 
 fn main() {
-    let archives = concat!(env!("CARGO_MANIFEST_DIR"), "/../../target/staticlib");
+    let archives = concat!(env!("CARGO_MANIFEST_DIR"), "/../../target");
     println!("cargo:rustc-link-search=native={archives}");
-    println!("cargo:rustc-link-lib=static=host");
-    println!("cargo:rerun-if-changed={archives}/libhost.a");
+    println!("cargo:rustc-link-lib=static=fadc250");
+    println!("cargo:rerun-if-changed={archives}/libfadc250.a");
 }

@@ -32,6 +32,7 @@ use Rattle.rawitems.specs.declared.Pairs.{Pairs}
 use Rattle.rawitems.specs.Pairs.{partOf}
 use Rattle.records.specs.Answers.{NextSays}
 use Rattle.host.proofs as host
+use Rattle.hostread.proofs as hostread
 use Rattle.bytecheck.specs.Check.{checkNumber}
 use Rattle.host.specs.Face.{SetUpFace, OpenBlockFace, OpenEventFace, PostFace, CloseFace, FinishFace, FindFace}
 use Rattle.reading.specs.Reading.{NextFace}
@@ -139,7 +140,7 @@ pub list-long-tied : (κs : Lfts 2) (bytes text text′ : Reference) (r : Listed
 list-long-tied κs bytes text text′ r p = p
 
 pub fadc250-list-tied : (κs : Lfts 2) (bytes text text′ : Reference) (r : ℕ)
-    → host.fadc250_list.Reads.Learnt κs (bytes, (text, tt)) r (bytes, (text′, tt)) → LengthSays (longListingOf (now bytes)) (now text) r (now text′)
+    → hostread.fadc250_list.Reads.Learnt κs (bytes, (text, tt)) r (bytes, (text′, tt)) → LengthSays (longListingOf (now bytes)) (now text) r (now text′)
 fadc250-list-tied κs bytes text text′ r p = p
 
 pub samples-tied : (κs : Lfts 2) (words : Reference) (place pairs : ℕ) (out out′ : Reference) (r : ℕ)
@@ -148,10 +149,10 @@ pub samples-tied : (κs : Lfts 2) (words : Reference) (place pairs : ℕ) (out o
 samples-tied κs words place pairs out out′ r p = p
 
 pub fadc250-samples-tied : (κs : Lfts 2) (words : Reference) (place pairs : ℕ) (out out′ : Reference) (r : ℕ)
-    → host.fadc250_samples.Reads.Learnt κs (words, (place, (pairs, (out, tt)))) r (words, (place, (pairs, (out′, tt))))
+    → hostread.fadc250_samples.Reads.Learnt κs (words, (place, (pairs, (out, tt)))) r (words, (place, (pairs, (out′, tt))))
     → SamplesSay (samplesOf (partOf (now words) (record { place = place; count = pairs }))) (now out) r (now out′)
 fadc250-samples-tied κs words place pairs out out′ r p = p
 
 pub fadc250-next-tied : (κs : Lfts 3) (scan scan′ words out out′ : Reference) (r : ℕ)
-    → host.fadc250_next.Reads.Learnt κs (scan, (words, (out, tt))) r (scan′, (words, (out′, tt))) → NextFace (now scan) (now words) (now out) r (now scan′) (now out′)
+    → hostread.fadc250_next.Reads.Learnt κs (scan, (words, (out, tt))) r (scan′, (words, (out′, tt))) → NextFace (now scan) (now words) (now out) r (now scan′) (now out′)
 fadc250-next-tied κs scan scan′ words out out′ r p = p

@@ -57,6 +57,7 @@ use Rattle.copies.proofs as copies
 use Rattle.numbers.proofs as numbers
 use Rattle.bytecheck.proofs as bytecheck
 use Rattle.host.proofs as host
+use Rattle.hostread.proofs as hostread
 use Rattle.host.specs.UniqueLaws as H
 use Rattle.text.proofs as text
 use Rattle.text.specs.Page.{Page}
@@ -697,14 +698,14 @@ list-unique κs a r s u v p q = let e = one-listing p q in (e .0, λ i. (tt, (e 
 pub list-long-unique : Unique listing.list_long.ended listing.list_long.Reads.Learnt
 list-long-unique κs a r s u v p q = let e = one-listing p q in (e .0, λ i. (tt, (e .1 i, tt)))
 
-pub fadc250-list-unique : Unique host.fadc250_list.ended host.fadc250_list.Reads.Learnt
+pub fadc250-list-unique : Unique hostread.fadc250_list.ended hostread.fadc250_list.Reads.Learnt
 fadc250-list-unique κs a r s u v p q = let e = one-length p q in (e .0, λ i. (tt, (e .1 i, tt)))
 
 -- rawsamples
 pub samples-unique : Unique rawsamples.samples.ended rawsamples.samples.Reads.Learnt
 samples-unique κs a r s u v p q = let e = one-unpacking p q in (e .0, λ i. (tt, (tt, (tt, (e .1 i, tt)))))
 
-pub fadc250-samples-unique : Unique host.fadc250_samples.ended host.fadc250_samples.Reads.Learnt
+pub fadc250-samples-unique : Unique hostread.fadc250_samples.ended hostread.fadc250_samples.Reads.Learnt
 fadc250-samples-unique κs a r s u v p q = let e = one-unpacking p q in (e .0, λ i. (tt, (tt, (tt, (e .1 i, tt)))))
 
 -- ---- reading from C
@@ -734,5 +735,5 @@ pub reading-next-unique : Unique reading.next.ended reading.next.Reads.Learnt
 reading-next-unique κs a r s u v p q = let e = next-face-unique _ _ _ _ _ _ _ _ _ p q in (e .0, λ i. (e .1 .0 i, (tt, (e .1 .1 i, tt))))
 
 -- host
-pub fadc250-next-unique : Unique host.fadc250_next.ended host.fadc250_next.Reads.Learnt
+pub fadc250-next-unique : Unique hostread.fadc250_next.ended hostread.fadc250_next.Reads.Learnt
 fadc250-next-unique κs a r s u v p q = let e = next-face-unique _ _ _ _ _ _ _ _ _ p q in (e .0, λ i. (e .1 .0 i, (tt, (e .1 .1 i, tt))))

@@ -1,8 +1,8 @@
--- `host::fadc250_list` meets its contract: both answers of the lister tell the text's length.
+-- `hostread::fadc250_list` meets its contract: both answers of the lister tell the text's length.
 use borrow.Author.Needs.{needs}
 use Rattle.listing.specs.RoomLaws.{length-told, length-needed}
-use Rattle.host.proofs.fadc250_list.Statement.{statement}
-use Rattle.host.proofs.fadc250_list.Tie as tie
+use Rattle.hostread.proofs.fadc250_list.Statement.{statement}
+use Rattle.hostread.proofs.fadc250_list.Tie as tie
 
 returns : tie.Need-returns
 returns c = length-told (c .before .before .before .before .before .list-long .ensures) (c .before .length .given .1)
