@@ -25,6 +25,7 @@ pub mod FromCLaws
 pub mod CRunLaws
 pub mod ReadFromC
 pub mod ReadFromCLaws
+pub mod RoundFromCLaws
 pub mod Unique
 pub mod Ties
 pub mod FieldEnds
