@@ -8,7 +8,7 @@ use refusals::Refusal;
 pub mod calls;
 pub mod found;
 
-// What a call answers whose array is not: it comes after the paper's numbers.
+// What a call answers whose array is not as long as the header says: 64, after the paper's numbers.
 fn or_bad_array(refusal: Refusal) -> u32
     ensures { λ r. ⌜ r ≡ orElse (numberOf refusal) badArray ⌝ }
 {
