@@ -18,7 +18,7 @@ use Rattle.bytecheck.specs.Check.{numberOfOut}
 use Rattle.cursors.specs.Cursors.{scanCount, cursorOf}
 use Rattle.cells.specs.Cells.{recordCount, endKind, recordNumbers}
 use Rattle.cells.specs.CellsLaws.{TimeSound}
-use Rattle.reading.specs.Reading.{roomFor, toldBy, recordOf, filled, NextFace}
+use Rattle.reading.specs.Reading.{roomFor, toldBy, recordOf, recordStored, NextFace}
 
 -- ---- one call
 
@@ -34,7 +34,7 @@ pub record NextCall (words : List ℕ) (s : Scan) (out : List ℕ) (r : ℕ) (n�
   pub said : NextSays words s answer
   pub number : r ≡ toldBy answer (roomFor out)
   pub numbers : n′ ≡ cursorOf (scanAfter answer (roomFor out) s)
-  pub cells : out′ ≡ filled out (recordOf answer)
+  pub cells : out′ ≡ recordStored out (recordOf answer)
 
 -- ---- calls one after the other
 

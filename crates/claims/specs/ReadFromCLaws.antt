@@ -25,7 +25,7 @@ use Rattle.cursors.specs.Cursors.{cursorOf}
 use Rattle.cursors.specs.CursorsLaws.{scan-over, scan-back, scan-is, start-zeros}
 use Rattle.cells.specs.Cells.{recordCount, kindOf, endKind, fieldNumbers, recordNumbers, endNumbers, noNumbers}
 use Rattle.cells.specs.SoundLaws.{took-sound}
-use Rattle.reading.specs.Reading.{badAnswer, roomFor, toldBy, scanLeft, recordOf, filled, NextFace}
+use Rattle.reading.specs.Reading.{badAnswer, roomFor, toldBy, scanLeft, recordOf, recordStored, NextFace}
 use Rattle.layout.specs.NothingLost.{AllWords}
 use Rattle.layout.specs.FirstWrong.{placeOf, place-counts, place-small}
 use Rattle.layout.specs.WrongLaws.{first-wrong}
@@ -284,7 +284,7 @@ c-refusal-checked {words} c out {r} {n′} {out′} f high low w =
 
 -- what a call leaves, by the library's answer
 face-of : (words : List ℕ) (s : Scan) (out : List ℕ) (x : Next) → nextAt words s ≡ x
-    → NextFace (cursorOf s) words out (toldBy x (roomFor out)) (cursorOf (scanAfter x (roomFor out) s)) (filled out (recordOf x))
+    → NextFace (cursorOf s) words out (toldBy x (roomFor out)) (cursorOf (scanAfter x (roomFor out) s)) (recordStored out (recordOf x))
 face-of words s out x e =
     record {
       number = rw (scan-is s, scan-back s, e);

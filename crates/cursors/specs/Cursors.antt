@@ -62,8 +62,8 @@ stageFirst (P.Window pairs odd) = pairs
 stageFirst (P.Raw pairs some) = pairs
 stageFirst (P.Tail fillers) = fillers
 
-abbrev pub bitOf : Bool → ℕ
-bitOf b = cond b 1 0
+abbrev pub markNumber : Bool → ℕ
+markNumber b = cond b 1 0
 
 -- the same of its mark
 abbrev pub stageSecond : Stage → ℕ
@@ -73,8 +73,8 @@ stageSecond P.Front = 0
 stageSecond P.Opened = 0
 stageSecond (P.Timed bits) = 0
 stageSecond P.Items = 0
-stageSecond (P.Window pairs odd) = bitOf odd
-stageSecond (P.Raw pairs some) = bitOf some
+stageSecond (P.Window pairs odd) = markNumber odd
+stageSecond (P.Raw pairs some) = markNumber some
 stageSecond (P.Tail fillers) = 0
 
 unfoldable pub cursorOf : Scan → List ℕ

@@ -1,7 +1,7 @@
 // Where the reading of a block stands, as numbers that C lends: asked for, loaded, stored.
 ghost use mathlib.Core.Path.{_≡_};
 ghost use lib.ListN.{getD};
-ghost use Rattle.cursors.specs.Cursors.{bitOf, stageNumber, stageFirst, stageSecond, cursorOf, isScan, stageFrom, scanFrom, scanStored};
+ghost use Rattle.cursors.specs.Cursors.{markNumber, stageNumber, stageFirst, stageSecond, cursorOf, isScan, stageFrom, scanFrom, scanStored};
 use scan::Scan;
 use scan::Stage;
 
@@ -106,8 +106,8 @@ fn stage_first(stage: Stage) -> u32
     }
 }
 
-fn bit_of(mark: bool) -> u32
-    ensures { λ r. ⌜ r ≡ bitOf mark ⌝ }
+fn mark_number(mark: bool) -> u32
+    ensures { λ r. ⌜ r ≡ markNumber mark ⌝ }
 {
     if mark { 1 } else { 0 }
 }
@@ -123,8 +123,8 @@ fn stage_second(stage: Stage) -> u32
         Stage::Opened => 0,
         Stage::Timed(_) => 0,
         Stage::Items => 0,
-        Stage::Window(_, odd) => bit_of(odd),
-        Stage::Raw(_, some) => bit_of(some),
+        Stage::Window(_, odd) => mark_number(odd),
+        Stage::Raw(_, some) => mark_number(some),
         Stage::Tail(_) => 0,
     }
 }

@@ -40,11 +40,11 @@ recordOf (N.End words) = endNumbers
 recordOf (N.Refused n place) = noNumbers
 
 -- numbers over the front of those lent; fewer stay as they were
-abbrev pub filled : List ℕ → List ℕ → List ℕ
-filled out new = cond (roomFor out) (splice out 0 new) out
+abbrev pub recordStored : List ℕ → List ℕ → List ℕ
+recordStored out new = cond (roomFor out) (splice out 0 new) out
 
 -- one call: `n` the scan's numbers, `out` the record's, `n′` and `out′` the same after it, `r` the answer
 pub record NextFace (n words out : List ℕ) (r : ℕ) (n′ out′ : List ℕ) : Type 0 where
   pub number : r ≡ cond (isScan n) (toldBy (nextAt words (scanFrom n)) (roomFor out)) badAnswer
   pub numbers : n′ ≡ cond (isScan n) (scanLeft (nextAt words (scanFrom n)) (roomFor out) n) n
-  pub cells : out′ ≡ filled out (cond (isScan n) (recordOf (nextAt words (scanFrom n))) noNumbers)
+  pub cells : out′ ≡ recordStored out (cond (isScan n) (recordOf (nextAt words (scanFrom n))) noNumbers)

@@ -16,7 +16,7 @@ use Rattle.records.specs.Next.{nextAt}
 use Rattle.scan.specs.declared.Scan.{Scan}
 use Rattle.cursors.specs.Cursors.{isScan, scanFrom, scanStored}
 use Rattle.cells.specs.Cells.{recordCount, recordNumbers, noNumbers}
-use Rattle.reading.specs.Reading.{badAnswer, roomFor, filled, NextFace}
+use Rattle.reading.specs.Reading.{badAnswer, roomFor, recordStored, NextFace}
 use Rattle.reading.specs.Inner.{Told}
 
 -- ---- filling in
@@ -27,13 +27,13 @@ room-short out h = lt-leb _ _ h
 pub room-long : (out : List ℕ) → recordCount ≤ length out → roomFor out ≡ true
 room-long out h = le-leb _ _ h
 
-pub fill-short : (out new : List ℕ) → length out < recordCount → out ≡ filled out new
+pub fill-short : (out new : List ℕ) → length out < recordCount → out ≡ recordStored out new
 fill-short out new h = rw (room-short out h)
 
 -- a record's numbers have room where so many are lent as a record has
-pub fill-by : (out : List ℕ) {m new out′ : List ℕ} → m ≡ new → out′ ≡ pasted out 0 m → length m ≡ recordCount → out′ ≡ filled out new
+pub fill-by : (out : List ℕ) {m new out′ : List ℕ} → m ≡ new → out′ ≡ pasted out 0 m → length m ≡ recordCount → out′ ≡ recordStored out new
 fill-by out {m = m} e f k =
-    f ∙ ap (λ (j : ℕ). cond (leb (0 + j) (length out)) (splice out 0 m) out) k ∙ ap (filled out) e
+    f ∙ ap (λ (j : ℕ). cond (leb (0 + j) (length out)) (splice out 0 m) out) k ∙ ap (recordStored out) e
 
 -- ---- what was read
 
@@ -48,7 +48,7 @@ took-long n out x u h e f k g =
 
 -- ---- the call
 
-pub next-unscanned : (n words out : List ℕ) {out′ : List ℕ} → isScan n ≡ false → out′ ≡ filled out noNumbers → NextFace n words out badAnswer n out′
+pub next-unscanned : (n words out : List ℕ) {out′ : List ℕ} → isScan n ≡ false → out′ ≡ recordStored out noNumbers → NextFace n words out badAnswer n out′
 next-unscanned n words out e g = record { number = rw e; numbers = rw e; cells = rw e g }
 
 pub next-told : (n words out : List ℕ) {s : Scan} {x : Next} {r : ℕ} {n′ out′ : List ℕ} → isScan n ≡ true → s ≡ scanFrom n → x ≡ nextAt words s

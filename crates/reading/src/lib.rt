@@ -1,7 +1,7 @@
 // Reads a block from C, record by record: the scan's numbers are loaded, and an accepted call stores them and fills in the record's.
 ghost use mathlib.Core.Path.{_≡_};
 ghost use Rattle.cells.specs.Cells.{noNumbers};
-ghost use Rattle.reading.specs.Reading.{roomFor, toldBy, recordOf, filled, NextFace};
+ghost use Rattle.reading.specs.Reading.{roomFor, toldBy, recordOf, recordStored, NextFace};
 ghost use Rattle.reading.specs.Inner.{Told};
 use records::answer::Next;
 use records::answer::Record;
@@ -12,7 +12,7 @@ const BAD_ANSWER: u64 = refusals::BAD_ARRAY as u64 * 4294967296;
 
 // No record is left of an older call.
 fn clear(out: &mut [u64])
-    ensures { λ _. ⌜ now (out .exit) ≡ filled (now (out .entry)) noNumbers ⌝ }
+    ensures { λ _. ⌜ now (out .exit) ≡ recordStored (now (out .entry)) noNumbers ⌝ }
 {
     let none = cells::no_numbers();
     copies::put64(out, 0, &none);
@@ -33,7 +33,7 @@ fn took(numbers: &mut [u32], out: &mut [u64], x: Record, after: Scan) -> u64
 
 // The block's end: the scan stays before it.
 fn ended(out: &mut [u64], words: u32) -> u64
-    ensures { λ r. ⌜ (r ≡ toldBy (Next.End words) (roomFor (now (out .entry)))) × (now (out .exit) ≡ filled (now (out .entry)) (recordOf (Next.End words))) ⌝ }
+    ensures { λ r. ⌜ (r ≡ toldBy (Next.End words) (roomFor (now (out .entry)))) × (now (out .exit) ≡ recordStored (now (out .entry)) (recordOf (Next.End words))) ⌝ }
 {
     if out.len() < cells::RECORD {
         return BAD_ANSWER;
@@ -45,7 +45,7 @@ fn ended(out: &mut [u64], words: u32) -> u64
 
 // A refusal and its place in one number, as the check of bytes answers them.
 fn refused(out: &mut [u64], number: u32, place: u32) -> u64
-    ensures { λ r. ⌜ (r ≡ toldBy (Next.Refused number place) (roomFor (now (out .entry)))) × (now (out .exit) ≡ filled (now (out .entry)) (recordOf (Next.Refused number place))) ⌝ }
+    ensures { λ r. ⌜ (r ≡ toldBy (Next.Refused number place) (roomFor (now (out .entry)))) × (now (out .exit) ≡ recordStored (now (out .entry)) (recordOf (Next.Refused number place))) ⌝ }
 {
     clear(out);
     (number as u64) * 4294967296 + (place as u64)
