@@ -20,11 +20,11 @@ pub over-at : (w : List ℕ) (t k : ℕ) → over w t k ≡ ltb t (ampAt w k)
 unfolding over ampAt
 over-at w t k = over-amp t _
 
-pub starts-next : (w : List ℕ) (t k : ℕ) (was now : Bool) → was ≡ over w t k → now ≡ over w t (k + 1) → now && not was ≡ starts w t (k + 1)
+pub starts-after : (w : List ℕ) (t k : ℕ) (was : Bool) → over w t k ≡ was → starts w t (k + 1) ≡ over w t (k + 1) && not was
 unfolding starts
-starts-next w t k was now a b =
+starts-after w t k was h =
     let e : k + 1 - 1 ≡ k = omega arith in
-    rw (a, b, e)
+    rw (e, h)
 
 -- ---- the search from s
 

@@ -1,8 +1,16 @@
 // Where a pulse is: document 01, "Finding pulses". Samples are numbered from 1, so 0 says that a search found none.
 ghost use mathlib.Core.Path.{_≡_};
-ghost use Prim.Native.Nat.{_≤_};
+ghost use Prim.Native.Nat.{_+_, _≤_, _<_};
 ghost use lib.ListN.{length};
-ghost use Rattle.search.specs.Search.{over, firstOver, overIn, anyOver, nextTc, tcFrom, early};
+ghost use Rattle.ground.specs.Search.{least};
+ghost use Rattle.search.specs.Search.{ampAt, over, overIn, anyOver, nextTc, tcFrom, early};
+ghost use Rattle.search.specs.Chunk.{chunk, NoneHigher, Passed};
+
+// So many samples are looked at one by one before a chunk is: where pulses are many, the next one is near.
+const NEAR: usize = 16;
+
+// The samples of a chunk.
+const CHUNK: usize = 64;
 
 // Sample k is over the threshold.
 fn is_over(window: &[u16], threshold: u32, k: usize) -> bool
@@ -12,53 +20,113 @@ fn is_over(window: &[u16], threshold: u32, k: usize) -> bool
     samples::over(threshold, window[k - 1])
 }
 
-// The first of the first n samples that is over.
-fn first_over(window: &[u16], threshold: u32, n: usize) -> usize
-    requires { ⌜ n ≤ length (now window) ⌝ }
-    ensures { λ r. ⌜ r ≡ firstOver (now (window .entry)) threshold n ⌝ }
+// The first of the n samples after s that is over.
+fn first_over(window: &[u16], threshold: u32, s: usize, n: usize) -> usize
+    requires { ⌜ s + n ≤ length (now window) ⌝ }
+    ensures { λ r. ⌜ r ≡ least (over (now (window .entry)) threshold) s (s + n) ⌝ }
 {
-    let mut k = 0;
-    while k < n {
-        k += 1;
-        if is_over(window, threshold, k) {
-            return k;
+    let mut j = 0;
+    while j < n {
+        if is_over(window, threshold, s + j + 1) {
+            return s + j + 1;
         }
+        j += 1;
     }
     0
 }
 
-// One of the first n samples is over.
-fn over_in(window: &[u16], threshold: u32, n: usize) -> bool
-    requires { ⌜ n ≤ length (now window) ⌝ }
-    ensures { λ r. ⌜ r ≡ overIn (now (window .entry)) threshold n ⌝ }
+// An amplitude as narrow as a sample: eight are then compared at once.
+fn amplitude_at(window: &[u16], k: usize) -> u16
+    requires { ⌜ (1 ≤ k) × (k ≤ length (now window)) ⌝ }
+    ensures { λ r. ⌜ r ≡ ampAt (now (window .entry)) k ⌝ }
 {
-    0 < first_over(window, threshold, n)
+    samples::amplitude(window[k - 1]) as u16
+}
+
+fn higher(a: u16, b: u16) -> u16
+    ensures { λ r. ⌜ (a ≤ r) × (b ≤ r) ⌝ }
+{
+    if a < b { b } else { a }
+}
+
+// No sample of the chunk after k is higher. No early way out: its samples are looked at together.
+fn chunk_high(window: &[u16], k: usize) -> u16
+    requires { ⌜ k + chunk ≤ length (now window) ⌝ }
+    ensures { λ r. ⌜ NoneHigher (now (window .entry)) k chunk r ⌝ }
+{
+    let mut high = 0;
+    let mut j = 0;
+    while j < CHUNK {
+        high = higher(high, amplitude_at(window, k + j + 1));
+        j += 1;
+    }
+    high
+}
+
+// Where the chunk begins that goes on from k: at k, or sooner where it would pass n.
+fn chunk_from(k: usize, n: usize) -> usize
+    requires { ⌜ (k < n) × (chunk ≤ n) ⌝ }
+    ensures { λ r. ⌜ (r ≤ k) × (k < r + chunk) × (r + chunk ≤ n) ⌝ }
+{
+    let last = n - CHUNK;
+    if k < last { k } else { last }
+}
+
+// How far the search from s may go on at once: past chunks in which none is over. The last chunk may overlap the one before it.
+fn quiet_to(window: &[u16], threshold: u32, s: usize) -> usize
+    requires { ⌜ s ≤ length (now window) ⌝ }
+    ensures { λ r. ⌜ Passed (over (now (window .entry)) threshold) s (length (now (window .entry))) r ⌝ }
+{
+    let n = window.len();
+    if n < CHUNK {
+        return s;
+    }
+    let mut k = s;
+    while k < n {
+        let at = chunk_from(k, n);
+        if threshold < chunk_high(window, at) as u32 {
+            return k;
+        }
+        k = at + CHUNK;
+    }
+    k
+}
+
+// The first sample after s that is over.
+fn over_after(window: &[u16], threshold: u32, s: usize) -> usize
+    requires { ⌜ s ≤ length (now window) ⌝ }
+    ensures { λ r. ⌜ r ≡ least (over (now (window .entry)) threshold) s (length (now (window .entry))) ⌝ }
+{
+    let n = window.len();
+    let mut k = s;
+    while NEAR <= n - k {
+        let found = first_over(window, threshold, k, NEAR);
+        if found != 0 {
+            return found;
+        }
+        k = quiet_to(window, threshold, k + NEAR);
+    }
+    first_over(window, threshold, k, n - k)
 }
 
 // Any sample of the window is over.
 pub fn any_over(window: &[u16], threshold: u32) -> bool
     ensures { λ r. ⌜ r ≡ anyOver (now (window .entry)) threshold ⌝ }
 {
-    over_in(window, threshold, window.len())
+    0 < over_after(window, threshold, 0)
 }
 
-// The TC after s of a pulse that is not the first: over, and its neighbour is not. The neighbour's test is kept, so each sample is read once.
+// The TC after s of a pulse that is not the first: over, and its neighbour is not. From a sample that is not over on, that is the first that is over.
 fn next_tc(window: &[u16], threshold: u32, s: usize) -> usize
     requires { ⌜ 1 ≤ s ⌝ }
     ensures { λ r. ⌜ r ≡ nextTc (now (window .entry)) threshold s ⌝ }
 {
-    if window.len() <= s {
-        return 0;
-    }
     let mut k = s;
-    let mut was_over = is_over(window, threshold, k);
     while k < window.len() {
-        k += 1;
-        let now_over = is_over(window, threshold, k);
-        if now_over & !was_over {
-            return k;
+        if !is_over(window, threshold, k) {
+            return over_after(window, threshold, k);
         }
-        was_over = now_over;
+        k += 1;
     }
     0
 }
@@ -68,7 +136,7 @@ pub fn tc_from(window: &[u16], threshold: u32, s: usize) -> usize
     ensures { λ r. ⌜ r ≡ tcFrom (now (window .entry)) threshold s ⌝ }
 {
     if s == 0 {
-        first_over(window, threshold, window.len())
+        over_after(window, threshold, 0)
     } else {
         next_tc(window, threshold, s)
     }
@@ -81,6 +149,6 @@ pub fn is_early(window: &[u16], threshold: u32) -> bool
     if window.len() < 4 {
         true
     } else {
-        over_in(window, threshold, 4)
+        0 < first_over(window, threshold, 0, 4)
     }
 }
