@@ -6,10 +6,6 @@ use mathlib.Core.List.{List}
 use Rattle.ground.specs.Search.{least}
 use Rattle.search.specs.Search.{ampAt}
 
--- the samples that are looked at together
-abbrev pub chunk : ℕ
-chunk = 64
-
 -- none of the n samples after k is higher
 abbrev pub NoneHigher : List ℕ → ℕ → ℕ → ℕ → Type 0
 NoneHigher w k n high = (j : ℕ) → k < j → j ≤ k + n → ampAt w j ≤ high

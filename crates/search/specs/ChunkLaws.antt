@@ -1,7 +1,7 @@
 -- Laws of the search by chunks: many samples are passed at once. Assumes nothing.
 use Prim.Native.Nat.{ℕ, zero, suc, _+_, _-_, _≤_, _<_}
-use mathlib.Core.Path.{_≡_, refl, sym, ap, _∙_}
-use mathlib.Core.Bool.{Bool, true, false, not, _&&_, and-true, and-false}
+use mathlib.Core.Path.{_≡_, refl, sym, _∙_}
+use mathlib.Core.Bool.{Bool, true, false, and-true, and-false}
 use mathlib.Core.List.{List}
 use native.Mathlib.Omega.{arith}
 use native.Mathlib.Decide.{decLe}
@@ -51,12 +51,12 @@ one-higher w k n high here r h e l = λ j a b.
       | no g ↦ (let z : j ≡ k + n + 1 = omega arith in rw z (omega arith))
     ]
 
--- a chunk without one is passed, also one that begins before the search stands
-pub chunk-none : (w : List ℕ) (t s k e a n high : ℕ) → Passed (over w t) s e k → NoneHigher w a n high → high ≤ t → (a ≤ k) × (k < a + n) × (a + n ≤ e)
-    → Passed (over w t) s e (a + n)
-chunk-none w t s k e a n high i h g l =
-    let pass = least-to (over w t) k (a + n) e (omega arith) (l .2) (λ j x y. over-at w t j ∙ le-ltb t (ampAt w j) (omega (arith, h j (omega arith) y))) in
-    record { from = omega arith; to = l .2; same = i .same ∙ pass }
+-- where none of a chunk is over, the search goes on to its end; it may begin before the search stands
+pub chunk-none : (w : List ℕ) (t s k e a n high m : ℕ) → Passed (over w t) s e k → NoneHigher w a n high → high ≤ t → a ≤ k → k ≤ m → m ≤ a + n → m ≤ e
+    → Passed (over w t) s e m
+chunk-none w t s k e a n high m i h g l q r f =
+    let pass = least-to (over w t) k m e q f (λ j x y. over-at w t j ∙ le-ltb t (ampAt w j) (omega (arith, h j (omega arith) (omega arith)))) in
+    record { from = omega arith; to = f; same = i .same ∙ pass }
 
 -- ---- the search for a next pulse
 

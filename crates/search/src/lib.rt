@@ -1,10 +1,10 @@
 // Where a pulse is: document 01, "Finding pulses". Samples are numbered from 1, so 0 says that a search found none.
 ghost use mathlib.Core.Path.{_≡_};
-ghost use Prim.Native.Nat.{_+_, _≤_, _<_};
+ghost use Prim.Native.Nat.{_+_, _≤_};
 ghost use lib.ListN.{length};
 ghost use Rattle.ground.specs.Search.{least};
 ghost use Rattle.search.specs.Search.{ampAt, over, overIn, anyOver, nextTc, tcFrom, early};
-ghost use Rattle.search.specs.Chunk.{chunk, NoneHigher, Passed};
+ghost use Rattle.search.specs.Chunk.{NoneHigher, Passed};
 
 // So many samples are looked at one by one before a chunk is: where pulses are many, the next one is near.
 const NEAR: usize = 16;
@@ -49,27 +49,18 @@ fn higher(a: u16, b: u16) -> u16
     if a < b { b } else { a }
 }
 
-// No sample of the chunk after k is higher. No early way out: its samples are looked at together.
-fn chunk_high(window: &[u16], k: usize) -> u16
-    requires { ⌜ k + chunk ≤ length (now window) ⌝ }
-    ensures { λ r. ⌜ NoneHigher (now (window .entry)) k chunk r ⌝ }
+// None of the n samples after k is higher. No early way out: where n is known, they are looked at together.
+fn high_of(window: &[u16], k: usize, n: usize) -> u16
+    requires { ⌜ k + n ≤ length (now window) ⌝ }
+    ensures { λ r. ⌜ NoneHigher (now (window .entry)) k n r ⌝ }
 {
     let mut high = 0;
     let mut j = 0;
-    while j < CHUNK {
+    while j < n {
         high = higher(high, amplitude_at(window, k + j + 1));
         j += 1;
     }
     high
-}
-
-// Where the chunk begins that goes on from k: at k, or sooner where it would pass n.
-fn chunk_from(k: usize, n: usize) -> usize
-    requires { ⌜ (k < n) × (chunk ≤ n) ⌝ }
-    ensures { λ r. ⌜ (r ≤ k) × (k < r + chunk) × (r + chunk ≤ n) ⌝ }
-{
-    let last = n - CHUNK;
-    if k < last { k } else { last }
 }
 
 // How far the search from s may go on at once: past chunks in which none is over. The last chunk may overlap the one before it.
@@ -81,15 +72,18 @@ fn quiet_to(window: &[u16], threshold: u32, s: usize) -> usize
     if n < CHUNK {
         return s;
     }
+    let last = n - CHUNK;
     let mut k = s;
-    while k < n {
-        let at = chunk_from(k, n);
-        if threshold < chunk_high(window, at) as u32 {
+    while k < last {
+        if threshold < high_of(window, k, CHUNK) as u32 {
             return k;
         }
-        k = at + CHUNK;
+        k += CHUNK;
     }
-    k
+    if threshold < high_of(window, last, CHUNK) as u32 {
+        return k;
+    }
+    n
 }
 
 // The first sample after s that is over.

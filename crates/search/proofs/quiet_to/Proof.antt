@@ -1,5 +1,6 @@
 -- `search::quiet_to` meets its contract. The invariant: the search after `k` has the answer of the search after `s`. Assumes nothing.
 use Prim.Native.Nat.{_-_}
+use native.Mathlib.Omega.{arith}
 use borrow.Author.Needs.{needs}
 use Rattle.search.specs.Search.{over}
 use Rattle.search.specs.Chunk.{Passed}
@@ -8,10 +9,10 @@ use Rattle.search.proofs.quiet_to.Statement.{statement}
 use Rattle.search.proofs.quiet_to.Tie as tie
 
 abbrev Inv-loop : tie.InvT-loop
-Inv-loop window threshold s n k₀ k = Passed (over window threshold) s n k
+Inv-loop window threshold s n last k₀ k = Passed (over window threshold) s n k
 
 abbrev μ-loop : tie.MeasureT-loop
-μ-loop window threshold s n k₀ k = n - k
+μ-loop window threshold s n last k₀ k = n - k
 
 returns : tie.Need-returns Inv-loop μ-loop
 returns c = passed-none _ _ _ (search needs)
@@ -20,13 +21,16 @@ loop-holds : tie.Need-loop-holds Inv-loop μ-loop
 loop-holds c = passed-none _ _ _ (search needs)
 
 returns-2 : tie.Need-returns-2 Inv-loop μ-loop
-returns-2 c = c .before .before .before .before .loop .inv
+returns-2 c = c .before .before .before .loop .inv
 
 loop-again : tie.Need-loop-again Inv-loop μ-loop
-loop-again c = chunk-none _ _ _ _ _ _ _ _ (c .before .before .before .before .loop .inv) (c .before .chunk-high .ensures) (c .if2 .left) (c .before .before .chunk-from .ensures)
+loop-again c = chunk-none _ _ _ _ _ _ _ _ _ (c .before .before .before .loop .inv) (c .before .high-of .ensures) (c .if2 .left) (omega arith) (omega arith) (omega arith) (omega arith)
 
 returns-3 : tie.Need-returns-3 Inv-loop μ-loop
-returns-3 c = c .before .loop .inv
+returns-3 c = c .before .before .before .loop .inv
+
+returns-4 : tie.Need-returns-4 Inv-loop μ-loop
+returns-4 c = chunk-none _ _ _ _ _ _ _ _ _ (c .before .before .before .loop .inv) (c .before .high-of2 .ensures) (c .if3 .left) (omega arith) (omega arith) (omega arith) (omega arith)
 
 pub quiet-to-spec : {M : Type 1} → statement M
 quiet-to-spec =
@@ -37,10 +41,12 @@ quiet-to-spec =
     returns
     loop-holds
     (λ c κs. search needs)
-    (λ c κs. search needs)
     (λ c. search needs)
     returns-2
     (λ c. search needs)
     (λ c. search needs)
     loop-again
-    returns-3)
+    (λ c κs. search needs)
+    (λ c. search needs)
+    returns-3
+    returns-4)
