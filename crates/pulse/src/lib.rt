@@ -3,7 +3,6 @@ mod measure;
 
 use finder::Pulse;
 use items::Item;
-use items::put::put_if;
 use items::put::room_short;
 use raw::pulse_raw::PulseRaw;
 ghost use mathlib.Core.Path.{_≡_};
@@ -15,7 +14,7 @@ ghost use Rattle.ground.specs.Splice.{Written, WrittenIf};
 ghost use Rattle.limits.specs.Limits.{mostSamples};
 ghost use Rattle.items.specs.Items.{wordsOf};
 ghost use Rattle.pulse.specs.Pulse.{rawItems, pulseItems, fitsIn, oneIf, pulseLength};
-ghost use Rattle.pulse.specs.Inner.{Fitting};
+ghost use Rattle.pulse.specs.Inner.{Fitting, wordIf};
 
 // What a mode writes: the window, and of each pulse its samples, integral, time (high-resolution or TC) and pedestal.
 pub struct Parts {
@@ -86,6 +85,18 @@ fn put_raw_if(
     }
 }
 
+// A word where the mode writes it.
+fn put_word_if(words: &mut [u32], at: usize, on: bool, word: u32) -> usize
+    requires { ⌜ at + length (wordIf on word) ≤ length (now words) ⌝ }
+    ensures { λ r. ⌜ Written (now (words .entry)) at (wordIf on word) r (now (words .exit)) ⌝ }
+{
+    if on {
+        words[at] = word;
+        return at + 1;
+    }
+    at
+}
+
 // What the mode writes of a pulse that has room.
 fn put_fitting(
     words: &mut [u32],
@@ -101,23 +112,23 @@ fn put_fitting(
     ensures { λ r. ⌜ Written (now (words .entry)) at (wordsOf (pulseItems parts channel (now (row .entry)) i pulse)) r (now (words .exit)) ⌝ }
 {
     let samples = put_raw_if(words, at, parts.raw, channel, row, i, pulse);
-    let integral = put_if(
+    let integral = put_word_if(
         words,
         samples,
         parts.integral,
-        measure::integral_of(channel, i, pulse),
+        measure::integral_word(channel, i, pulse),
     );
-    let time = put_if(
+    let time = put_word_if(
         words,
         integral,
         parts.time,
-        measure::time_of(parts.high, channel, i, pulse),
+        measure::time_word(parts.high, channel, i, pulse),
     );
-    put_if(
+    put_word_if(
         words,
         time,
         parts.pedestal,
-        measure::pedestal_of(channel, i, pulse),
+        measure::pedestal_word(channel, i, pulse),
     )
 }
 
