@@ -16,7 +16,7 @@ use Rattle.pairs.specs.PairsLaws.{length-pairs}
 use Rattle.items.specs.declared.Item.{Item}
 use Rattle.items.specs.Items.{wordOf, wordsOf, itemIf}
 use Rattle.pulse.specs.declared.Parts.{Parts}
-use Rattle.pulse.specs.Pulse.{setOf, rawItems, integralItem, timeItem, pedestalItem, pulseItems, pulseLength, fitsIn}
+use Rattle.pulse.specs.Pulse.{setOf, rawItems, integralItem, timeItem, pedestalItem, pulseItems, setLength, pulseLength, fitsIn}
 use Rattle.pulse.specs.Inner.{Fitting, wordIf}
 
 -- ---- how many words
@@ -41,7 +41,7 @@ unfolding rawItems
 length-raw c w i p f l = omega (arith, length-pairs (setOf w p), ap pairsOf (length-set w p f l))
 
 pub length-pulse : (m : Parts) (c : ℕ) (w : List ℕ) (i : ℕ) (p : Pulse) → 1 ≤ p .first → p .last ≤ length w → length (pulseItems m c w i p) ≡ pulseLength m p
-unfolding pulseItems pulseLength
+unfolding pulseItems setLength pulseLength
 length-pulse m c w i p f l =
     let a = length-if (m .raw) (rawItems c w i p) (1 + pairsOf (p .last + 1 - p .first)) (length-raw c w i p f l) in
     let b = length-if (m .integral) (integralItem c i p ∷ []) 1 refl in

@@ -13,7 +13,7 @@ ghost use lib.ListN.{length};
 ghost use Rattle.ground.specs.Splice.{Written, WrittenIf};
 ghost use Rattle.limits.specs.Limits.{mostSamples};
 ghost use Rattle.items.specs.Items.{wordsOf};
-ghost use Rattle.pulse.specs.Pulse.{rawItems, pulseItems, fitsIn, oneIf, pulseLength};
+ghost use Rattle.pulse.specs.Pulse.{rawItems, pulseItems, fitsIn, oneIf, setLength, pulseLength};
 ghost use Rattle.pulse.specs.Inner.{Fitting, wordIf};
 
 // What a mode writes: the window, and of each pulse its samples, integral, time (high-resolution or TC) and pedestal.
@@ -45,15 +45,22 @@ fn one_if(on: bool) -> usize
     if on { 1 } else { 0 }
 }
 
+// How many words the mode writes of a pulse whose data set has so many samples.
+pub fn set_length(parts: Parts, samples: usize) -> usize
+    ensures { λ r. ⌜ r ≡ setLength parts samples ⌝ }
+{
+    let run = pairs::run_length_if(parts.raw, samples);
+    let integral = one_if(parts.integral);
+    let time = one_if(parts.time);
+    let pedestal = one_if(parts.pedestal);
+    run + (integral + (time + pedestal))
+}
+
 fn fitting_length(parts: Parts, pulse: Pulse) -> usize
     requires { ⌜ (pulse .last ≤ mostSamples) × (1 ≤ pulse .first) × (pulse .first ≤ pulse .last) ⌝ }
     ensures { λ r. ⌜ r ≡ pulseLength parts pulse ⌝ }
 {
-    let samples = pairs::run_length_if(parts.raw, pulse.last + 1 - pulse.first);
-    let integral = one_if(parts.integral);
-    let time = one_if(parts.time);
-    let pedestal = one_if(parts.pedestal);
-    samples + (integral + (time + pedestal))
+    set_length(parts, pulse.last + 1 - pulse.first)
 }
 
 // A pulse's data set where the mode writes it.
