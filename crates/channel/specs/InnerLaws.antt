@@ -1,27 +1,29 @@
 -- Pulses in three places, read in turn; and how many words a channel takes. Assumes nothing.
-use Prim.Native.Nat.{ℕ, _+_, _-_, _≤_, _<_}
+use Prim.Native.Nat.{ℕ, zero, suc, _+_, _-_, _≤_, _<_}
 use mathlib.Core.Path.{_≡_, refl, sym, ap, ap₂, _∙_}
 use mathlib.Core.Bool.{Bool, true, false, cond, _&&_}
 use mathlib.Core.List.{List, [], _∷_, _++_}
 use native.Mathlib.Omega.{arith}
 use native.Mathlib.Numerals.{add-one}
+use borrow.Author.Tests.{lt-ltb}
+use lib.Dec.{ltb}
 use lib.ListN.{length, getD, drop, replicate, drop-of-length-le, length-append}
 use lib.Seq.{drop-cons, getD-take, length-take-le, sets-eq}
 use Rattle.ground.specs.TestsLaws.{or-none}
 use Rattle.limits.specs.Limits.{mostSamples, pairsOf}
-use Rattle.settings.specs.declared.Settings.{Settings}
+use Rattle.settings.specs.Ranges.{mostLimit}
 use Rattle.finder.specs.declared.Pulse.{Pulse}
 use Rattle.finder.specs.declared.Pulses.{Pulses}
-use Rattle.search.specs.Search.{anyOver}
-use Rattle.finder.specs.Find.{pulsesFrom, noPulse, packed, searchable, findAll}
-use Rattle.finder.specs.FindLaws.{find-all, Searched, searched, can-search}
+use Rattle.search.specs.Search.{overIn, anyOver, tcFrom}
+use Rattle.finder.specs.Find.{pulsesFrom, noPulse, packed, findAll}
+use Rattle.finder.specs.FindLaws.{find-all, Searched, can-search}
 use Rattle.finder.specs.RangeLaws.{PulseFits, EachFits, fits-at, pulses-fit, pulses-count, packed-back}
 use Rattle.pulse.specs.declared.Parts.{Parts}
-use Rattle.pulse.specs.Pulse.{pulseItems, pulseLength, fitsIn}
+use Rattle.pulse.specs.Pulse.{pulseItems, setLength, pulseLength, fitsIn}
 use Rattle.pulse.specs.PulseLaws.{length-if, length-pulse, fits-in}
 use Rattle.pairs.specs.PairsLaws.{length-pairs}
 use Rattle.items.specs.declared.Item.{Item}
-use Rattle.channel.specs.Channel.{windowItems, partsOf, pulsesItems, Common, commonOf, pulsesOf, channelItems}
+use Rattle.channel.specs.Channel.{windowItems, partsOf, pulsesItems, Common, pulsesOf, channelItems}
 use Rattle.channel.specs.Inner.{listed, InWindow, ofPulses, limitFor, pulsesLength, channelLength}
 
 -- ---- the three places
@@ -112,7 +114,7 @@ parts-off m h =
     (c .0, (c .1, (b .1, a .1)))
 
 pulse-none : (m : Parts) (c : ℕ) (w : List ℕ) (i : ℕ) (p : Pulse) → ofPulses m ≡ false → (pulseItems m c w i p ≡ []) × (pulseLength m p ≡ 0)
-unfolding pulseItems pulseLength
+unfolding pulseItems setLength pulseLength
 pulse-none m c w i p h = let o = parts-off m h in rw (o .0, o .1 .0, o .1 .1 .0, o .1 .1 .1) (refl, refl)
 
 items-none : (m : Parts) (c : ℕ) (w : List ℕ) (i : ℕ) (l : List Pulse) → ofPulses m ≡ false → pulsesItems m c w i l ≡ []
@@ -127,50 +129,76 @@ length-none m (p ∷ l) h = ap₂ (λ (x y : ℕ). x + y) (pulse-none m 0 [] 0 p
 
 -- ---- what the finder gives
 
--- what is written of the pulses found, and its length, are those of all pulses
-pub record IsFound (s : Settings) (t : ℕ) (w : List ℕ) (m : Parts) (found : Pulses) : Type 0 where
+-- the pulses found are of the window, and their length is that of all pulses
+pub record IsFound (s : Common) (t : ℕ) (w : List ℕ) (m : Parts) (found : Pulses) : Type 0 where
   pub inside : InWindow (length w) found
-  pub items : (c : ℕ) → pulsesItems m c w 0 (listed found) ≡ pulsesItems m c w 0 (pulsesOf (commonOf s) t w)
-  pub size : pulsesLength m (listed found) ≡ pulsesLength m (pulsesOf (commonOf s) t w)
+  pub size : pulsesLength m (listed found) ≡ pulsesLength m (pulsesOf s t w)
 
-found-to : (s : Settings) (t : ℕ) (w : List ℕ) (n : ℕ) (found : Pulses) → Searched (length w) (s .nsa) n → found ≡ findAll w t (s .nsb) (s .nsa) n
+found-to : (s : Common) (t : ℕ) (w : List ℕ) (n : ℕ) (found : Pulses) → Searched (length w) (s .nsa) n → found ≡ findAll w t (s .nsb) (s .nsa) n
     → InWindow (length w) found × (listed found ≡ pulsesFrom w t (s .nsb) (s .nsa) n 0)
 found-to s t w n found r e =
     let few : length (pulsesFrom w t (s .nsb) (s .nsa) n 0) ≤ 3 = omega (arith, pulses-count w t (s .nsb) (s .nsa) n 0, r .few) in
     rw (e, find-all w t (s .nsb) (s .nsa) n (can-search _ _ _ r)) (in-window (length w) _ (pulses-fit w t (s .nsb) (s .nsa) n 0 (r .some)) few, listed-packed _ few)
 
-pub is-found : (s : Settings) (t : ℕ) (w : List ℕ) (m : Parts) (found : Pulses) → searchable (length w) (s .nsa) (s .limit) ≡ true
-    → found ≡ findAll w t (s .nsb) (s .nsa) (limitFor m (s .limit)) → IsFound s t w m found
-is-found s t w m found ok e = go (ofPulses m) refl
+-- a limit that is not passed
+pub search-less : (m : Parts) (n nsa limit most : ℕ) → Searched n nsa limit → most ≡ limitFor m limit → Searched n nsa most
+search-less m n nsa limit most r e = record { short = r .short; some = r .some; within = r .within; few = rw e (less (ofPulses m)) }
   where
-    r : Searched (length w) (s .nsa) (s .limit)
-    r = searched _ _ _ ok
+    less : (b : Bool) → cond b limit 0 ≤ mostLimit
+    less true = r .few
+    less false = omega arith
 
-    to : (b : Bool) → ofPulses m ≡ b → found ≡ findAll w t (s .nsb) (s .nsa) (cond b (s .limit) 0)
-    to b h = e ∙ ap (λ (x : Bool). findAll w t (s .nsb) (s .nsa) (cond x (s .limit) 0)) h
-
-    go : (b : Bool) → ofPulses m ≡ b → IsFound s t w m found
-    go true on =
-        let f = found-to s t w (s .limit) found r (to true on) in
-        record { inside = f .0; items = λ c. ap (pulsesItems m c w 0) (f .1); size = ap (pulsesLength m) (f .1) }
-    go false off =
-        let none : Searched (length w) (s .nsa) 0 = record { short = r .short; some = r .some; within = r .within; few = omega arith } in
-        record {
-          inside = found-to s t w 0 found none (to false off) .0;
-          items = λ c. items-none m c w 0 (listed found) off ∙ sym (items-none m c w 0 (pulsesOf (commonOf s) t w) off);
-          size = length-none m (listed found) off ∙ sym (length-none m (pulsesOf (commonOf s) t w) off);
-        }
+pub is-found : (s : Common) (t : ℕ) (w : List ℕ) (m : Parts) (found : Pulses) → Searched (length w) (s .nsa) (s .limit)
+    → found ≡ findAll w t (s .nsb) (s .nsa) (limitFor m (s .limit)) → IsFound s t w m found
+is-found s t w m found r e =
+    let f = found-to s t w (limitFor m (s .limit)) found (search-less m _ _ _ _ r refl) e in
+    record { inside = f .0; size = ap (pulsesLength m) (f .1) ∙ go (ofPulses m) refl }
+  where
+    go : (b : Bool) → ofPulses m ≡ b → pulsesLength m (pulsesFrom w t (s .nsb) (s .nsa) (cond b (s .limit) 0) 0) ≡ pulsesLength m (pulsesOf s t w)
+    go true on = refl
+    go false off = length-none m _ off ∙ sym (length-none m (pulsesOf s t w) off)
 
 -- the count from the numbers that the code has
-pub channel-counted : (s : Settings) (t : ℕ) (w : List ℕ) (m : Parts) (on : Bool) (found : Pulses) (a b : ℕ) → m ≡ partsOf (s .mode)
+pub channel-counted : (s : Common) (t : ℕ) (w : List ℕ) (m : Parts) (on : Bool) (found : Pulses) (a b : ℕ) → m ≡ partsOf (s .mode)
     → on ≡ (m .window && anyOver w t) → IsFound s t w m found → a ≡ cond on (1 + pairsOf (length w)) 0 → b ≡ pulsesLength m (listed found)
-    → a + b ≡ channelLength (commonOf s) t w
+    → a + b ≡ channelLength s t w
 unfolding channelLength
 channel-counted s t w m on found a b p o f ha hb = rw (ha, hb, f .size, o, p)
 
--- the channel's records from what the code has
-pub channel-found : (s : Settings) (t c : ℕ) (w : List ℕ) (m : Parts) (on : Bool) (found : Pulses) → m ≡ partsOf (s .mode)
-    → on ≡ (m .window && anyOver w t) → IsFound s t w m found
-    → channelItems (commonOf s) t c w ≡ cond on (windowItems c w) [] ++ pulsesItems m c w 0 (listed found)
+-- ---- by the first TC
+
+from-none : (w : List ℕ) (t nsb nsa n : ℕ) → tcFrom w t 0 ≡ 0 → pulsesFrom w t nsb nsa n 0 ≡ []
+unfolding pulsesFrom
+from-none w t nsb nsa zero h = refl
+from-none w t nsb nsa (suc n) h = rw h
+
+any-first : (w : List ℕ) (t : ℕ) → anyOver w t ≡ ltb 0 (tcFrom w t 0)
+unfolding overIn tcFrom
+any-first w t = refl
+
+-- without one the channel has no words
+pub channel-quiet : (s : Common) (t c : ℕ) (w : List ℕ) (first : ℕ) → first ≡ tcFrom w t 0 → first ≡ 0 → channelItems s t c w ≡ []
+unfolding channelItems pulsesItems
+channel-quiet s t c w first e z =
+    let h : tcFrom w t 0 ≡ 0 = sym e ∙ z in
+    rw (any-first w t, h, from-none w t (s .nsb) (s .nsa) (s .limit) h) (off (partsOf (s .mode) .window))
+  where
+    off : (b : Bool) → cond (b && false) (windowItems c w) [] ++ [] ≡ []
+    off true = refl
+    off false = refl
+
+-- with one it has its window where the mode writes it, and the pulses of which the mode writes
+pub channel-busy : (s : Common) (t c : ℕ) (w : List ℕ) (m : Parts) (first most : ℕ) → first ≡ tcFrom w t 0 → (first ≡ 0 → ⊥) → m ≡ partsOf (s .mode) → most ≡ limitFor m (s .limit)
+    → channelItems s t c w ≡ cond (m .window) (windowItems c w) [] ++ pulsesItems m c w 0 (pulsesFrom w t (s .nsb) (s .nsa) most 0)
 unfolding channelItems
-channel-found s t c w m on found p o f = rw (f .items c, o, p)
+channel-busy s t c w m first most e g p q =
+    let any : anyOver w t ≡ true = any-first w t ∙ lt-ltb 0 (tcFrom w t 0) (omega (arith, e, g)) in
+    rw (any, ← p, q) (ap₂ (λ (x y : List Item). x ++ y) (on (m .window)) (go (ofPulses m) refl))
+  where
+    on : (b : Bool) → cond (b && true) (windowItems c w) [] ≡ cond b (windowItems c w) []
+    on true = refl
+    on false = refl
+
+    go : (b : Bool) → ofPulses m ≡ b → pulsesItems m c w 0 (pulsesOf s t w) ≡ pulsesItems m c w 0 (pulsesFrom w t (s .nsb) (s .nsa) (cond b (s .limit) 0) 0)
+    go true h = refl
+    go false h = items-none m c w 0 (pulsesOf s t w) h ∙ sym (items-none m c w 0 _ h)

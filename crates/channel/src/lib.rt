@@ -1,7 +1,6 @@
 // The words of one channel, put into a lent buffer.
 mod count;
 
-use finder::Pulses;
 use items::Item;
 use items::put::room_short;
 use pulse::Parts;
@@ -11,15 +10,16 @@ ghost use mathlib.Core.Path.{_≡_};
 ghost use mathlib.Core.Bool.{true, cond, _&&_};
 ghost use mathlib.Core.List.{[], _∷_};
 ghost use Prim.Native.Nat.{_+_, _≤_};
-ghost use lib.Dec.{ltb};
+ghost use lib.Dec.{ltb, leb};
 ghost use lib.ListN.{length};
 ghost use Rattle.ground.specs.Splice.{Written, WrittenIf};
 ghost use Rattle.limits.specs.Limits.{mostSamples};
-ghost use Rattle.search.specs.Search.{anyOver};
-ghost use Rattle.finder.specs.Find.{searchable, findAll};
+ghost use Rattle.search.specs.Search.{anyOver, tcFrom};
+ghost use Rattle.finder.specs.Find.{pulsesFrom, searchable};
+ghost use Rattle.finder.specs.FindLaws.{Searched};
 ghost use Rattle.items.specs.Items.{wordOf, wordsOf};
 ghost use Rattle.channel.specs.Channel.{windowItems, partsOf, pulsesItems, commonOf, channelItems, channelWords};
-ghost use Rattle.channel.specs.Inner.{listed, InWindow, limitFor, channelLength};
+ghost use Rattle.channel.specs.Inner.{limitFor, channelLength, modeMost};
 
 fn writing(window: bool, raw: bool, integral: bool, time: bool, high: bool, pedestal: bool) -> Parts
     ensures { λ r. ⌜ r ≡ record { window = window; raw = raw; integral = integral; time = time; high = high; pedestal = pedestal } ⌝ }
@@ -49,25 +49,49 @@ fn parts_of(mode: u32) -> Parts
     }
 }
 
-// The pulses in order.
+// The TC that the search from s finds; the first one was found before.
+fn tc_after(first: usize, row: &[u16], threshold: u32, s: usize) -> usize
+    requires { ⌜ first ≡ tcFrom (now row) threshold 0 ⌝ }
+    ensures { λ r. ⌜ r ≡ tcFrom (now (row .entry)) threshold s ⌝ }
+{
+    if s == 0 {
+        first
+    } else {
+        search::tc_from(row, threshold, s)
+    }
+}
+
+// The pulses in order, each written as it is found, with no more of it than the mode writes.
 fn put_pulses(
     words: &mut [u32],
     at: usize,
     parts: Parts,
+    nsb: usize,
+    nsa: usize,
+    limit: usize,
+    threshold: u32,
     channel: u32,
     row: &[u16],
-    found: Pulses,
+    first: usize,
 ) -> usize
-    requires { ⌜ InWindow (length (now row)) found × (length (now row) ≤ mostSamples) ⌝ }
-    requires { ⌜ at + length (pulsesItems parts channel (now row) 0 (listed found)) ≤ length (now words) ⌝ }
-    ensures { λ r. ⌜ Written (now (words .entry)) at (wordsOf (pulsesItems parts channel (now (row .entry)) 0 (listed found))) r (now (words .exit)) ⌝ }
+    requires { ⌜ Searched (length (now row)) nsa limit × (first ≡ tcFrom (now row) threshold 0) ⌝ }
+    requires { ⌜ at + length (pulsesItems parts channel (now row) 0 (pulsesFrom (now row) threshold nsb nsa limit 0)) ≤ length (now words) ⌝ }
+    ensures { λ r. ⌜ Written (now (words .entry)) at (wordsOf (pulsesItems parts channel (now (row .entry)) 0 (pulsesFrom (now (row .entry)) threshold nsb nsa limit 0))) r (now (words .exit)) ⌝ }
 {
+    let sums = parts.integral;
+    let times = parts.high | parts.pedestal;
     let mut next = at;
     let mut i = 0;
-    while i < found.count {
-        let pulse = found.pulses[i];
+    let mut s = 0;
+    while i < limit {
+        let tc = tc_after(first, row, threshold, s);
+        if tc == 0 {
+            return next;
+        }
+        let pulse = finder::pulse_with(row, threshold, nsb, nsa, tc, sums, times);
         next = pulse::put_pulse(words, next, parts, channel, row, i as u32, pulse);
         i += 1;
+        s = tc + nsa;
     }
     next
 }
@@ -97,13 +121,6 @@ fn limit_for(parts: Parts, limit: usize) -> usize
     }
 }
 
-fn pulses_for(parts: Parts, settings: Settings, threshold: u32, row: &[u16]) -> Pulses
-    ensures { λ r. ⌜ r ≡ findAll (now (row .entry)) threshold (settings .nsb) (settings .nsa) (limitFor parts (settings .limit)) ⌝ }
-{
-    let limit = limit_for(parts, settings.limit);
-    finder::pulses_of(row, threshold, settings.nsb, settings.nsa, limit)
-}
-
 // The window is wanted if any sample is over; a mode that writes no window looks at none.
 fn window_for(parts: Parts, threshold: u32, row: &[u16]) -> bool
     ensures { λ r. ⌜ r ≡ (parts .window && anyOver (now (row .entry)) threshold) ⌝ }
@@ -115,46 +132,94 @@ fn window_for(parts: Parts, threshold: u32, row: &[u16]) -> bool
     }
 }
 
-// The words of a channel that has room: the window where it is wanted, then the pulses.
+// The words of a channel that has room: where no sample is over none, else the window where the mode writes it, then the pulses.
 fn put_found(
     words: &mut [u32],
     at: usize,
-    settings: Settings,
+    mode: u32,
+    nsb: usize,
+    nsa: usize,
+    limit: usize,
     threshold: u32,
     channel: u32,
     row: &[u16],
 ) -> usize
-    requires { ⌜ searchable (length (now row)) (settings .nsa) (settings .limit) ≡ true ⌝ }
-    requires { ⌜ at + length (channelItems (commonOf settings) threshold channel (now row)) ≤ length (now words) ⌝ }
-    ensures { λ r. ⌜ Written (now (words .entry)) at (channelWords (commonOf settings) threshold channel (now (row .entry))) r (now (words .exit)) ⌝ }
+    requires { ⌜ Searched (length (now row)) nsa limit ⌝ }
+    requires { ⌜ at + length (channelItems (record { mode = mode; nsb = nsb; nsa = nsa; limit = limit }) threshold channel (now row)) ≤ length (now words) ⌝ }
+    ensures { λ r. ⌜ Written (now (words .entry)) at (channelWords (record { mode = mode; nsb = nsb; nsa = nsa; limit = limit }) threshold channel (now (row .entry))) r (now (words .exit)) ⌝ }
 {
-    let parts = parts_of(settings.mode);
-    let wanted = window_for(parts, threshold, row);
-    let found = pulses_for(parts, settings, threshold, row);
-    let window = put_window_if(words, at, wanted, channel, row);
-    put_pulses(words, window, parts, channel, row, found)
+    let first = search::tc_from(row, threshold, 0);
+    if first == 0 {
+        return at;
+    }
+    let parts = parts_of(mode);
+    let most = limit_for(parts, limit);
+    let window = put_window_if(words, at, parts.window, channel, row);
+    put_pulses(
+        words,
+        window,
+        parts,
+        nsb,
+        nsa,
+        most,
+        threshold,
+        channel,
+        row,
+        first,
+    )
 }
 
 // How many words that is.
-fn count_found(settings: Settings, threshold: u32, row: &[u16]) -> usize
-    requires { ⌜ searchable (length (now row)) (settings .nsa) (settings .limit) ≡ true ⌝ }
-    ensures { λ r. ⌜ r ≡ channelLength (commonOf settings) threshold (now (row .entry)) ⌝ }
+fn count_found(
+    mode: u32,
+    nsb: usize,
+    nsa: usize,
+    limit: usize,
+    threshold: u32,
+    row: &[u16],
+) -> usize
+    requires { ⌜ Searched (length (now row)) nsa limit ⌝ }
+    ensures { λ r. ⌜ r ≡ channelLength (record { mode = mode; nsb = nsb; nsa = nsa; limit = limit }) threshold (now (row .entry)) ⌝ }
 {
-    let parts = parts_of(settings.mode);
+    let parts = parts_of(mode);
     let wanted = window_for(parts, threshold, row);
-    let found = pulses_for(parts, settings, threshold, row);
+    let most = limit_for(parts, limit);
+    let found = finder::pulses_of(row, threshold, nsb, nsa, most);
     pairs::run_length_if(wanted, row.len()) + count::pulses_length(parts, found, row.len())
 }
 
-// Fewer words are left than the channel takes. Where there is room for the longest channel, nothing is counted.
-fn channel_short(room: usize, at: usize, settings: Settings, threshold: u32, row: &[u16]) -> bool
-    requires { ⌜ searchable (length (now row)) (settings .nsa) (settings .limit) ≡ true ⌝ }
-    ensures { λ r. ⌜ r ≡ ltb room (at + channelLength (commonOf settings) threshold (now (row .entry))) ⌝ }
+// No channel of so many samples takes more words in the mode; 0 where no window has so many.
+pub fn most_words(mode: u32, samples: usize) -> usize
+    ensures { λ r. ⌜ r ≡ cond (leb samples mostSamples) (modeMost mode samples) 0 ⌝ }
 {
-    if !room_short(room, at, limits::MOST_CHANNEL) {
+    if samples <= limits::MOST_SAMPLES {
+        let parts = parts_of(mode);
+        let window = pairs::run_length_if(parts.window, samples);
+        let pulse = pulse::set_length(parts, samples);
+        return window + 3 * pulse;
+    }
+    0
+}
+
+// Fewer words are left than the channel takes. Where there is room for the longest in the mode, nothing is counted.
+fn channel_short(
+    room: usize,
+    at: usize,
+    mode: u32,
+    nsb: usize,
+    nsa: usize,
+    limit: usize,
+    threshold: u32,
+    row: &[u16],
+) -> bool
+    requires { ⌜ Searched (length (now row)) nsa limit ⌝ }
+    ensures { λ r. ⌜ r ≡ ltb room (at + channelLength (record { mode = mode; nsb = nsb; nsa = nsa; limit = limit }) threshold (now (row .entry))) ⌝ }
+{
+    if !room_short(room, at, most_words(mode, row.len())) {
         return false;
     }
-    room_short(room, at, count_found(settings, threshold, row))
+    let count = count_found(mode, nsb, nsa, limit, threshold, row);
+    room_short(room, at, count)
 }
 
 // The words of a channel: of the common settings, its own threshold, its number and its window.
@@ -168,13 +233,17 @@ pub fn put_channel(
 ) -> usize
     ensures { λ r. ⌜ WrittenIf (searchable (length (now (row .entry))) (settings .nsa) (settings .limit)) (now (words .entry)) at (channelWords (commonOf settings) threshold channel (now (row .entry))) r (now (words .exit)) ⌝ }
 {
-    if !finder::can_search(row.len(), settings.nsa, settings.limit) {
+    let mode = settings.mode;
+    let nsb = settings.nsb;
+    let nsa = settings.nsa;
+    let limit = settings.limit;
+    if !finder::can_search(row.len(), nsa, limit) {
         return at;
     }
-    if channel_short(words.len(), at, settings, threshold, row) {
+    if channel_short(words.len(), at, mode, nsb, nsa, limit, threshold, row) {
         return at;
     }
-    put_found(words, at, settings, threshold, channel, row)
+    put_found(words, at, mode, nsb, nsa, limit, threshold, channel, row)
 }
 
 // How many words that is, whatever the channel's number.
@@ -182,7 +251,14 @@ pub fn channel_length(settings: Settings, threshold: u32, row: &[u16]) -> usize
     ensures { λ r. ⌜ r ≡ cond (searchable (length (now (row .entry))) (settings .nsa) (settings .limit)) (length (channelItems (commonOf settings) threshold 0 (now (row .entry)))) 0 ⌝ }
 {
     if finder::can_search(row.len(), settings.nsa, settings.limit) {
-        return count_found(settings, threshold, row);
+        return count_found(
+            settings.mode,
+            settings.nsb,
+            settings.nsa,
+            settings.limit,
+            threshold,
+            row,
+        );
     }
     0
 }

@@ -9,7 +9,7 @@ use Rattle.ground.specs.Search.{least, greatest, sumOver}
 use Rattle.ground.specs.Tests.{allOf}
 use Rattle.limits.specs.Limits.{mostSamples}
 use Rattle.settings.specs.Ranges.{mostNsa, mostLimit}
-use Rattle.search.specs.Search.{ampAt, tcFrom, early}
+use Rattle.search.specs.Search.{ampAt, over, tcFrom, early}
 use Rattle.finder.specs.declared.Rule.{Rule}
 use Rattle.finder.specs.declared.Rule.the-variants.{Early, Late, Flat, Edge}
 use Rattle.finder.specs.declared.Time.{Time}
@@ -97,6 +97,17 @@ pulseAt w t nsb nsa tc =
     let last : ℕ = setLast tc nsa (length w) in
     record { tc = tc; first = first; last = last; sum = integral w first last; time = timeAt w t tc }
 
+-- the same with no more of it than is asked: its sum, else 0; its time, else TC alone
+unfoldable pub pulseWith : Bool → Bool → List ℕ → ℕ → ℕ → ℕ → ℕ → Pulse
+pulseWith sums times w t nsb nsa tc =
+    let first : ℕ = setFirst tc nsb in
+    let last : ℕ = setLast tc nsa (length w) in
+    record { tc = tc; first = first; last = last; sum = cond sums (integral w first last) 0; time = cond times (timeAt w t tc) (tcOnly tc 0 Early) }
+
+-- sample k is one of the window, and over
+unfoldable pub isTc : List ℕ → ℕ → ℕ → Bool
+isTc w t k = allOf (leb 1 k ∷ leb k (length w) ∷ over w t k ∷ [])
+
 -- "Stop at the limit or when there is none." At most n pulses, from s on.
 unfoldable pub pulsesFrom : List ℕ → ℕ → ℕ → ℕ → ℕ → ℕ → List Pulse
 pulsesFrom w t nsb nsa zero s = []
@@ -122,5 +133,5 @@ findAll w t nsb nsa limit = packed (cond (searchable (length w) nsa limit) (puls
 
 -- a proof that computes opens this file and what it leans on by one name
 unfoldable pub allOpen : Unit {0}
-unfolding integral vmin falls firstFall vmid atMost n1 fineOf edgeTime afterFall timeAt pulseAt pulsesFrom noPulse packed searchable findAll Rattle.ground.specs.Search.allOpen Rattle.ground.specs.Tests.allOpen Rattle.limits.specs.Limits.allOpen Rattle.settings.specs.Ranges.allOpen Rattle.search.specs.Search.allOpen
+unfolding integral vmin falls firstFall vmid atMost n1 fineOf edgeTime afterFall timeAt pulseAt pulseWith isTc pulsesFrom noPulse packed searchable findAll Rattle.ground.specs.Search.allOpen Rattle.ground.specs.Tests.allOpen Rattle.limits.specs.Limits.allOpen Rattle.settings.specs.Ranges.allOpen Rattle.search.specs.Search.allOpen
 allOpen = tt

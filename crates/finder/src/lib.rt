@@ -2,6 +2,7 @@
 use settings::LIMIT_MAX;
 use settings::NSA_MAX;
 ghost use mathlib.Core.Path.{_≡_};
+ghost use mathlib.Core.Bool.{cond, _&&_};
 ghost use Prim.Native.Nat.{_≤_};
 ghost use mathlib.Core.List.{[]};
 ghost use lib.ListN.{length};
@@ -10,8 +11,9 @@ ghost use Rattle.settings.specs.Ranges.{mostNsa, mostLimit};
 ghost use Rattle.samples.specs.Sample.{mostAmp};
 ghost use Rattle.search.specs.Search.{ampAt};
 ghost use Rattle.search.specs.Asked.{IsOver};
-ghost use Rattle.finder.specs.Find.{setFirst, setLast, integral, vmin, firstFall, n1, edgeTime, tcOnly, timeAt, pulseAt, pulsesFrom, noPulse, packed, searchable, findAll, ruleNumber};
+ghost use Rattle.finder.specs.Find.{setFirst, setLast, integral, vmin, firstFall, n1, edgeTime, tcOnly, timeAt, pulseAt, pulseWith, isTc, pulsesFrom, noPulse, packed, searchable, findAll, ruleNumber};
 ghost use Rattle.finder.specs.Asked.{HasEdge};
+ghost use Rattle.finder.specs.declared.Rule.the-variants.{Early};
 
 // Which rule of the high-resolution time gave it: 1, 2, 3 and 4 in the paper's order.
 pub enum Rule {
@@ -207,6 +209,29 @@ fn pulse_at(window: &[u16], threshold: u32, nsb: usize, nsa: usize, tc: usize) -
     }
 }
 
+fn sum_if(on: bool, window: &[u16], first: usize, last: usize) -> u32
+    requires { ⌜ (1 ≤ first) × (last ≤ length (now window)) × (length (now window) ≤ mostSamples) ⌝ }
+    ensures { λ r. ⌜ r ≡ cond on (integral (now (window .entry)) first last) 0 ⌝ }
+{
+    if on {
+        integral_of(window, first, last)
+    } else {
+        0
+    }
+}
+
+fn time_if(on: bool, window: &[u16], threshold: u32, tc: usize) -> Time
+    requires { ⌜ IsOver (now window) threshold tc ⌝ }
+    requires { ⌜ length (now window) ≤ mostSamples ⌝ }
+    ensures { λ r. ⌜ r ≡ cond on (timeAt (now (window .entry)) threshold tc) (tcOnly tc 0 Early) ⌝ }
+{
+    if on {
+        time_at(window, threshold, tc)
+    } else {
+        tc_only(tc, 0, Rule::Early)
+    }
+}
+
 // What stands where there is no pulse.
 fn no_pulse() -> Pulse
     ensures { λ r. ⌜ r ≡ noPulse ⌝ }
@@ -267,5 +292,47 @@ pub fn pulses_of(window: &[u16], threshold: u32, nsb: usize, nsa: usize, limit: 
         all_pulses(window, threshold, nsb, nsa, limit)
     } else {
         no_pulses()
+    }
+}
+
+// Sample tc is one of the window, and over.
+fn is_tc(window: &[u16], threshold: u32, tc: usize) -> bool
+    ensures { λ r. ⌜ r ≡ isTc (now (window .entry)) threshold tc ⌝ }
+{
+    if tc < 1 {
+        return false;
+    }
+    if window.len() < tc {
+        return false;
+    }
+    samples::over(threshold, window[tc - 1])
+}
+
+// One pulse alone, for a caller that found its TC, with no more of it than is asked: its sum, its high-resolution time.
+// Not shared with `pulse_at`: a function of one caller is compiled in its place.
+pub fn pulse_with(
+    window: &[u16],
+    threshold: u32,
+    nsb: usize,
+    nsa: usize,
+    tc: usize,
+    sums: bool,
+    times: bool,
+) -> Pulse
+    ensures { λ r. ⌜ r ≡ cond (searchable (length (now (window .entry))) nsa 0 && isTc (now (window .entry)) threshold tc) (pulseWith sums times (now (window .entry)) threshold nsb nsa tc) noPulse ⌝ }
+{
+    if !(can_search(window.len(), nsa, 0) & is_tc(window, threshold, tc)) {
+        return no_pulse();
+    }
+    let first = set_first(tc, nsb);
+    let last = set_last(tc, nsa, window.len());
+    let sum = sum_if(sums, window, first, last);
+    let time = time_if(times, window, threshold, tc);
+    Pulse {
+        tc,
+        first,
+        last,
+        sum,
+        time,
     }
 }

@@ -53,8 +53,12 @@ pulseItems m c w i p =
 abbrev pub oneIf : Bool → ℕ
 oneIf on = cond on 1 0
 
+-- of a pulse whose data set has n samples
+unfoldable pub setLength : Parts → ℕ → ℕ
+setLength m n = cond (m .raw) (1 + pairsOf n) 0 + (oneIf (m .integral) + (oneIf (m .time) + oneIf (m .pedestal)))
+
 unfoldable pub pulseLength : Parts → Pulse → ℕ
-pulseLength m p = cond (m .raw) (1 + pairsOf (p .last + 1 - p .first)) 0 + (oneIf (m .integral) + (oneIf (m .time) + oneIf (m .pedestal)))
+pulseLength m p = setLength m (p .last + 1 - p .first)
 
 -- ---- of which window
 
@@ -65,5 +69,5 @@ fitsIn n p =
 
 -- a proof that computes opens this file and what it leans on by one name
 unfoldable pub allOpen : Unit {0}
-unfolding setOf rawItems integralItem timeItem pedestalItem pulseItems pulseLength fitsIn Rattle.ground.specs.Tests.allOpen Rattle.limits.specs.Limits.allOpen Rattle.items.specs.Items.allOpen
+unfolding setOf rawItems integralItem timeItem pedestalItem pulseItems setLength pulseLength fitsIn Rattle.ground.specs.Tests.allOpen Rattle.limits.specs.Limits.allOpen Rattle.items.specs.Items.allOpen
 allOpen = tt

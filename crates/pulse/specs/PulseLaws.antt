@@ -7,15 +7,17 @@ use native.Mathlib.Omega.{arith}
 use borrow.Author.Tests.{leb-true, le-leb}
 use lib.Dec.{leb}
 use lib.ListN.{length, take, drop, length-append, length-take, length-drop}
+use Rattle.ground.specs.Splice.{Written}
 use Rattle.ground.specs.TestsLaws.{every, all-of}
 use Rattle.limits.specs.Limits.{mostSamples, pairsOf}
 use Rattle.finder.specs.declared.Pulse.{Pulse}
 use Rattle.finder.specs.RangeLaws.{PulseFits}
 use Rattle.pairs.specs.PairsLaws.{length-pairs}
 use Rattle.items.specs.declared.Item.{Item}
+use Rattle.items.specs.Items.{wordOf, wordsOf, itemIf}
 use Rattle.pulse.specs.declared.Parts.{Parts}
-use Rattle.pulse.specs.Pulse.{setOf, rawItems, integralItem, timeItem, pedestalItem, pulseItems, pulseLength, fitsIn}
-use Rattle.pulse.specs.Inner.{Fitting}
+use Rattle.pulse.specs.Pulse.{setOf, rawItems, integralItem, timeItem, pedestalItem, pulseItems, setLength, pulseLength, fitsIn}
+use Rattle.pulse.specs.Inner.{Fitting, wordIf}
 
 -- ---- how many words
 
@@ -39,13 +41,26 @@ unfolding rawItems
 length-raw c w i p f l = omega (arith, length-pairs (setOf w p), ap pairsOf (length-set w p f l))
 
 pub length-pulse : (m : Parts) (c : ℕ) (w : List ℕ) (i : ℕ) (p : Pulse) → 1 ≤ p .first → p .last ≤ length w → length (pulseItems m c w i p) ≡ pulseLength m p
-unfolding pulseItems pulseLength
+unfolding pulseItems setLength pulseLength
 length-pulse m c w i p f l =
     let a = length-if (m .raw) (rawItems c w i p) (1 + pairsOf (p .last + 1 - p .first)) (length-raw c w i p f l) in
     let b = length-if (m .integral) (integralItem c i p ∷ []) 1 refl in
     let d = length-if (m .time) (timeItem (m .high) c i p ∷ []) 1 refl in
     let e = length-if (m .pedestal) (pedestalItem c i p ∷ []) 1 refl in
     rw (length-append, length-append, length-append, a, b, d, e)
+
+-- ---- a word for a record, each where it is wanted
+
+pub word-room : (on : Bool) (x : Item) (word k n : ℕ) → k + length (itemIf on x) ≤ n → k + length (wordIf on word) ≤ n
+unfolding wordIf
+word-room true x word k n h = h
+word-room false x word k n h = h
+
+pub word-written : (on : Bool) (x : Item) (word : ℕ) {b : List ℕ} {at : ℕ} {next : ℕ} {b′ : List ℕ} → word ≡ wordOf x → Written b at (wordIf on word) next b′
+    → Written b at (wordsOf (itemIf on x)) next b′
+unfolding wordIf
+word-written true x word e w = rw e at w
+word-written false x word e w = w
 
 -- ---- of which window
 

@@ -3,7 +3,6 @@ mod measure;
 
 use finder::Pulse;
 use items::Item;
-use items::put::put_if;
 use items::put::room_short;
 use raw::pulse_raw::PulseRaw;
 ghost use mathlib.Core.Path.{_≡_};
@@ -14,8 +13,8 @@ ghost use lib.ListN.{length};
 ghost use Rattle.ground.specs.Splice.{Written, WrittenIf};
 ghost use Rattle.limits.specs.Limits.{mostSamples};
 ghost use Rattle.items.specs.Items.{wordsOf};
-ghost use Rattle.pulse.specs.Pulse.{rawItems, pulseItems, fitsIn, oneIf, pulseLength};
-ghost use Rattle.pulse.specs.Inner.{Fitting};
+ghost use Rattle.pulse.specs.Pulse.{rawItems, pulseItems, fitsIn, oneIf, setLength, pulseLength};
+ghost use Rattle.pulse.specs.Inner.{Fitting, wordIf};
 
 // What a mode writes: the window, and of each pulse its samples, integral, time (high-resolution or TC) and pedestal.
 pub struct Parts {
@@ -46,15 +45,22 @@ fn one_if(on: bool) -> usize
     if on { 1 } else { 0 }
 }
 
+// How many words the mode writes of a pulse whose data set has so many samples.
+pub fn set_length(parts: Parts, samples: usize) -> usize
+    ensures { λ r. ⌜ r ≡ setLength parts samples ⌝ }
+{
+    let run = pairs::run_length_if(parts.raw, samples);
+    let integral = one_if(parts.integral);
+    let time = one_if(parts.time);
+    let pedestal = one_if(parts.pedestal);
+    run + (integral + (time + pedestal))
+}
+
 fn fitting_length(parts: Parts, pulse: Pulse) -> usize
     requires { ⌜ (pulse .last ≤ mostSamples) × (1 ≤ pulse .first) × (pulse .first ≤ pulse .last) ⌝ }
     ensures { λ r. ⌜ r ≡ pulseLength parts pulse ⌝ }
 {
-    let samples = pairs::run_length_if(parts.raw, pulse.last + 1 - pulse.first);
-    let integral = one_if(parts.integral);
-    let time = one_if(parts.time);
-    let pedestal = one_if(parts.pedestal);
-    samples + (integral + (time + pedestal))
+    set_length(parts, pulse.last + 1 - pulse.first)
 }
 
 // A pulse's data set where the mode writes it.
@@ -86,6 +92,18 @@ fn put_raw_if(
     }
 }
 
+// A word where the mode writes it.
+fn put_word_if(words: &mut [u32], at: usize, on: bool, word: u32) -> usize
+    requires { ⌜ at + length (wordIf on word) ≤ length (now words) ⌝ }
+    ensures { λ r. ⌜ Written (now (words .entry)) at (wordIf on word) r (now (words .exit)) ⌝ }
+{
+    if on {
+        words[at] = word;
+        return at + 1;
+    }
+    at
+}
+
 // What the mode writes of a pulse that has room.
 fn put_fitting(
     words: &mut [u32],
@@ -101,23 +119,23 @@ fn put_fitting(
     ensures { λ r. ⌜ Written (now (words .entry)) at (wordsOf (pulseItems parts channel (now (row .entry)) i pulse)) r (now (words .exit)) ⌝ }
 {
     let samples = put_raw_if(words, at, parts.raw, channel, row, i, pulse);
-    let integral = put_if(
+    let integral = put_word_if(
         words,
         samples,
         parts.integral,
-        measure::integral_of(channel, i, pulse),
+        measure::integral_word(channel, i, pulse),
     );
-    let time = put_if(
+    let time = put_word_if(
         words,
         integral,
         parts.time,
-        measure::time_of(parts.high, channel, i, pulse),
+        measure::time_word(parts.high, channel, i, pulse),
     );
-    put_if(
+    put_word_if(
         words,
         time,
         parts.pedestal,
-        measure::pedestal_of(channel, i, pulse),
+        measure::pedestal_word(channel, i, pulse),
     )
 }
 

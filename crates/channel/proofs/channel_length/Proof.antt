@@ -8,7 +8,7 @@ use Rattle.channel.proofs.channel_length.Statement.{statement}
 use Rattle.channel.proofs.channel_length.Tie as tie
 
 count-found-requires : tie.Need-count-found-requires
-count-found-requires c κs = sym (c .before .can-search .ensures) ∙ c .if1 .taken
+count-found-requires c κs = searched _ _ _ (sym (c .before .can-search .ensures) ∙ c .if1 .taken)
 
 returns : tie.Need-returns
 returns c =

@@ -1,43 +1,54 @@
 -- `channel::count_found` meets its contract: the count of what the finder gives.
+use mathlib.Core.Path.{_≡_}
 use native.Mathlib.Omega.{arith}
+use borrow.Author.Needs.{needs}
 use lib.ListN.{length}
 use Rattle.limits.specs.LimitsLaws.{most-raw, most-pulse}
 use Rattle.pairs.specs.PairsLaws.{run-most}
-use Rattle.finder.specs.FindLaws.{searched}
-use Rattle.channel.specs.InnerLaws.{is-found, channel-counted}
-use borrow.Author.Needs.{needs}
+use Rattle.channel.specs.Channel.{Common}
+use Rattle.channel.specs.InnerLaws.{IsFound, is-found, channel-counted}
 use Rattle.channel.proofs.count_found.Statement.{statement}
 use Rattle.channel.proofs.count_found.Tie as tie
 
+-- what is known once the finder has answered
+module _ (c : tie.After-pulses-of) where
+  abbrev start : tie.Start
+  start = c .before .before .before .before .before
+
+  common : Common
+  common = record { mode = start .args .mode; nsb = start .args .nsb; nsa = start .args .nsa; limit = start .args .limit }
+
+  found : IsFound common (start .args .threshold) (start .args .row .now) (c .before .before .before .parts-of .result) (c .pulses-of .result)
+  unfolding common
+  found = is-found common _ _ _ _ (start .pre) (rw (c .before .limit-for .ensures) at (c .pulses-of .ensures))
+
 pulses-length-requires : tie.Need-pulses-length-requires
-pulses-length-requires c κs =
-    let a = c .before .before .before .before .before in
-    (is-found (a .args .settings) _ _ _ _ (a .pre) (c .before .pulses-for .ensures) .inside, searched _ _ _ (a .pre) .short)
+pulses-length-requires c κs = (found (c .before) .inside, start (c .before) .pre .short)
 
 add-result : tie.Need-add-result
 add-result c =
-    let a = c .before .before .before .before .before .before in
+    let s = start (c .before .before) in
     omega (
       arith,
       most-raw,
       most-pulse,
       c .before .run-length-if .ensures,
-      run-most (c .before .before .before .window-for .result) (length (a .args .row .now)) (searched _ _ _ (a .pre) .short),
+      run-most (c .before .before .before .before .window-for .result) (length (s .args .row .now)) (s .pre .short),
       c .pulses-length .ensures .1,
     )
 
 returns : tie.Need-returns
+unfolding common
 returns c =
-    let a = c .before .before .before .before .before .before in
-    channel-counted _ _ _ _ _ _ _ _ (c .before .before .before .before .parts-of .ensures) (c .before .before .before .window-for .ensures)
-    (is-found (a .args .settings) _ _ _ _ (a .pre) (c .before .before .pulses-for .ensures))
-    (c .before .run-length-if .ensures)
-    (c .pulses-length .ensures .0)
+    let f = c .before .before in
+    channel-counted (common f) _ _ _ _ _ _ _ (f .before .before .before .parts-of .ensures) (f .before .before .window-for .ensures) (found f)
+    (c .before .run-length-if .ensures) (c .pulses-length .ensures .0)
 
 pub count-found-spec : {M : Type 1} → statement M
 count-found-spec =
     tie.close
     (tie.spec
+    (λ c κs. search needs)
     (λ c κs. search needs)
     (λ c κs. search needs)
     (λ c κs. search needs)

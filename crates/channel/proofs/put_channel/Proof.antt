@@ -36,7 +36,7 @@ room : (c : tie.Else2) → c .before .before .before .before .before .before .ar
 room c = rw (size (c .before .before)) (ltb-false _ _ (sym (c .before .channel-short .ensures) ∙ c .if2 .left))
 
 put-found-requires : tie.Need-put-found-requires
-put-found-requires c κs = (asked (c .before .before .before), room (c .before))
+put-found-requires c κs = (searched _ _ _ (asked (c .before .before .before)), room (c .before))
 
 returns-3 : tie.Need-returns-3
 returns-3 c =
@@ -50,7 +50,7 @@ put-channel-spec =
     (tie.spec
     (λ c κs. search needs)
     returns
-    (λ c κs. asked c)
+    (λ c κs. searched _ _ _ (asked c))
     returns-2
     put-found-requires
     (λ c. search needs)

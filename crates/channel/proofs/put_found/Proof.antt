@@ -1,4 +1,4 @@
--- `channel::put_found` meets its contract: the window where it is wanted, then the pulses that the finder gave.
+-- `channel::put_found` meets its contract: nothing without a TC; else the window where the mode writes it, then the pulses.
 use Prim.Native.Nat.{_+_, _≤_}
 use mathlib.Core.Path.{_≡_}
 use mathlib.Core.Bool.{cond}
@@ -6,56 +6,65 @@ use mathlib.Core.List.{List, [], _++_}
 use native.Mathlib.Omega.{arith}
 use borrow.Author.Needs.{needs}
 use lib.ListN.{length}
-use Rattle.limits.specs.Limits.{mostSamples}
-use Rattle.finder.specs.FindLaws.{searched}
+use Rattle.ground.specs.WritingLaws.{written-nil}
+use Rattle.finder.specs.Find.{pulsesFrom}
 use Rattle.items.specs.declared.Item.{Item}
 use Rattle.items.specs.ItemsLaws.{first-room, then-room, then-written}
-use Rattle.channel.specs.Channel.{windowItems, pulsesItems, commonOf, channelItems}
-use Rattle.channel.specs.Inner.{listed}
-use Rattle.channel.specs.InnerLaws.{IsFound, is-found, channel-found}
+use Rattle.channel.specs.Channel.{Common, windowItems, pulsesItems, channelItems}
+use Rattle.channel.specs.InnerLaws.{search-less, channel-quiet, channel-busy}
 use Rattle.channel.proofs.put_found.Statement.{statement}
 use Rattle.channel.proofs.put_found.Tie as tie
 
--- what is known once the finder has answered
-module _ (c : tie.After-pulses-for) where
-  found : IsFound (c .before .before .before .before .before .args .settings) (c .before .before .before .before .before .args .threshold) (c .before .before .before .before .before .args .row .now) (c .before .before .parts-of .result) (c .pulses-for .result)
-  found = is-found _ _ _ _ _ (c .before .before .before .before .before .pre .0) (c .pulses-for .ensures)
+common : tie.Start → Common
+common s = record { mode = s .args .mode; nsb = s .args .nsb; nsa = s .args .nsa; limit = s .args .limit }
 
-  short : length (c .before .before .before .before .before .args .row .now) ≤ mostSamples
-  short = searched _ _ _ (c .before .before .before .before .before .pre .0) .short
+returns : tie.Need-returns
+unfolding common
+returns c =
+    let s = c .before .before .before .before in
+    rw (channel-quiet (common s) (s .args .threshold) (s .args .channel) (s .args .row .now) _ (c .before .tc-from .ensures) (c .if1 .taken)) (written-nil _ _)
+
+-- what is known where there is a TC
+module _ (c : tie.After-limit-for) where
+  abbrev start : tie.Start
+  start = c .before .before .before .before .before .before
 
   window : List Item
-  window = cond (c .before .window-for .result) (windowItems (c .before .before .before .before .before .args .channel) (c .before .before .before .before .before .args .row .now)) []
+  window = cond (c .before .parts-of .result .window) (windowItems (start .args .channel) (start .args .row .now)) []
 
   pulses : List Item
-  pulses = pulsesItems (c .before .before .parts-of .result) (c .before .before .before .before .before .args .channel) (c .before .before .before .before .before .args .row .now) 0 (listed (c .pulses-for .result))
+  pulses = pulsesItems (c .before .parts-of .result) (start .args .channel) (start .args .row .now) 0 (pulsesFrom (start .args .row .now) (start .args .threshold) (start .args .nsb) (start .args .nsa) (c .limit-for .result) 0)
 
-  are : channelItems (commonOf (c .before .before .before .before .before .args .settings)) (c .before .before .before .before .before .args .threshold) (c .before .before .before .before .before .args .channel) (c .before .before .before .before .before .args .row .now) ≡ window ++ pulses
-  unfolding window pulses
-  are = channel-found _ _ _ _ _ _ _ (c .before .before .parts-of .ensures) (c .before .window-for .ensures) found
+  are : channelItems (common start) (start .args .threshold) (start .args .channel) (start .args .row .now) ≡ window ++ pulses
+  unfolding common window pulses
+  are =
+      channel-busy (common start) (start .args .threshold) (start .args .channel) (start .args .row .now) (c .before .parts-of .result) _ _
+      (c .before .before .before .tc-from .ensures) (c .before .before .if1 .left) (c .before .parts-of .ensures) (c .limit-for .ensures)
 
-  room : c .before .before .before .before .before .args .at + length (window ++ pulses) ≤ length (c .before .before .before .before .before .args .words .now)
-  room = rw are at (c .before .before .before .before .before .pre .1)
+  room : start .args .at + length (window ++ pulses) ≤ length (start .args .words .now)
+  unfolding common
+  room = rw are at (start .pre .1)
 
 put-window-if-requires : tie.Need-put-window-if-requires
 unfolding window
 put-window-if-requires c κs =
     let f = c .before in
-    (short f, first-room _ _ (window f) _ (room f))
+    (start f .pre .0 .short, first-room _ _ (window f) _ (room f))
 
 put-pulses-requires : tie.Need-put-pulses-requires
 unfolding window pulses
 put-pulses-requires c κs =
     let f = c .before .before .before .before .before in
-    ((found f .inside, short f), then-room _ _ (window f) (pulses f) _ _ (room f) (c .before .before .before .put-window-if .ensures))
+    ((search-less (f .before .parts-of .result) _ _ _ _ (start f .pre .0) (f .limit-for .ensures), f .before .before .before .tc-from .ensures), then-room _ _ (window f) (pulses f) _ _ (room f) (c .before .before .before .put-window-if .ensures))
 
-returns : tie.Need-returns
-unfolding window pulses
-returns c =
+returns-2 : tie.Need-returns-2
+unfolding common window pulses
+returns-2 c =
     let f = c .before .before .before .before .before .before .before .before in
     rw (are f)
     (then-written _ _ (window f) _ _ (pulses f) _ _ (omega (arith, room f)) (c .before .before .before .before .before .before .put-window-if .ensures) (c .before .before .put-pulses .ensures))
 
 pub put-found-spec : {M : Type 1} → statement M
 put-found-spec =
-    tie.close (tie.spec (λ c κs. tt) (λ c κs. tt) (λ c κs. tt) put-window-if-requires put-pulses-requires (λ c. search needs) returns)
+    tie.close
+    (tie.spec (λ c κs. tt) returns (λ c κs. tt) (λ c κs. tt) put-window-if-requires put-pulses-requires (λ c. search needs) returns-2)

@@ -1,5 +1,4 @@
 -- `pulse::put_fitting` meets its contract: its records one after the other, each where the mode writes it.
-use mathlib.Core.Path.{refl}
 use mathlib.Core.List.{List, [], _++_}
 use mathlib.Core.Bool.{cond}
 use Prim.Native.Nat.{_+_, _≤_}
@@ -9,8 +8,9 @@ use lib.ListN.{length}
 use Rattle.ground.specs.Splice.{Written}
 use Rattle.items.specs.Items.{wordsOf, itemIf}
 use Rattle.items.specs.declared.Item.{Item}
-use Rattle.items.specs.ItemsLaws.{first-room, then-room, put-written, then-written}
+use Rattle.items.specs.ItemsLaws.{first-room, then-room, then-written}
 use Rattle.pulse.specs.Pulse.{rawItems, integralItem, timeItem, pedestalItem, pulseItems}
+use Rattle.pulse.specs.PulseLaws.{word-room, word-written}
 use Rattle.pulse.proofs.put_fitting.Statement.{statement}
 use Rattle.pulse.proofs.put_fitting.Tie as tie
 
@@ -39,31 +39,43 @@ put-raw-if-requires c κs =
     (s .pre .0, first-room _ _ (raw s) _ (whole s))
 
 -- each part is written, and what is left has room behind it
-behind-raw : (c : tie.After-integral-of)
+behind-raw : (c : tie.After-integral-word)
     → c .before .before .before .before .put-raw-if .result + length (integral (c .before .before .before .before .before .before .before .before) ++ (time (c .before .before .before .before .before .before .before .before) ++ pedestal (c .before .before .before .before .before .before .before .before))) ≤ length (c .before .before .before .before .put-raw-if .last .0)
 unfolding raw
 behind-raw c = then-room _ _ (raw (c .before .before .before .before .before .before .before .before)) (integral (c .before .before .before .before .before .before .before .before) ++ (time (c .before .before .before .before .before .before .before .before) ++ pedestal (c .before .before .before .before .before .before .before .before))) _ _ (whole (c .before .before .before .before .before .before .before .before)) (c .before .before .before .before .put-raw-if .ensures)
 
-wrote-integral : (c : tie.After-put-if)
-    → Written (c .before .before .before .before .before .put-raw-if .last .0) (c .before .before .before .before .before .put-raw-if .result) (wordsOf (integral (c .before .before .before .before .before .before .before .before .before))) (c .put-if .result) (c .put-if .last .0)
+wrote-integral : (c : tie.After-put-word-if)
+    → Written (c .before .before .before .before .before .put-raw-if .last .0) (c .before .before .before .before .before .put-raw-if .result) (wordsOf (integral (c .before .before .before .before .before .before .before .before .before))) (c .put-word-if .result) (c .put-word-if .last .0)
 unfolding integral
-wrote-integral c = put-written (integral (c .before .before .before .before .before .before .before .before .before)) refl (first-room _ _ (integral (c .before .before .before .before .before .before .before .before .before)) _ (behind-raw (c .before))) (rw (c .before .integral-of .ensures) at (c .put-if .ensures))
+wrote-integral c = word-written _ _ _ (c .before .integral-word .ensures) (c .put-word-if .ensures)
 
-behind-integral : (c : tie.After-time-of) → c .before .before .before .before .put-if .result + length (time (c .before .before .before .before .before .before .before .before .before .before .before .before .before) ++ pedestal (c .before .before .before .before .before .before .before .before .before .before .before .before .before)) ≤ length (c .before .before .before .before .put-if .last .0)
+behind-integral : (c : tie.After-time-word) → c .before .before .before .before .put-word-if .result + length (time (c .before .before .before .before .before .before .before .before .before .before .before .before .before) ++ pedestal (c .before .before .before .before .before .before .before .before .before .before .before .before .before)) ≤ length (c .before .before .before .before .put-word-if .last .0)
 behind-integral c = then-room _ _ (integral (c .before .before .before .before .before .before .before .before .before .before .before .before .before)) (time (c .before .before .before .before .before .before .before .before .before .before .before .before .before) ++ pedestal (c .before .before .before .before .before .before .before .before .before .before .before .before .before)) _ _ (behind-raw (c .before .before .before .before .before)) (wrote-integral (c .before .before .before .before))
 
-wrote-time : (c : tie.After-put-if2)
-    → Written (c .before .before .before .before .before .put-if .last .0) (c .before .before .before .before .before .put-if .result) (wordsOf (time (c .before .before .before .before .before .before .before .before .before .before .before .before .before .before))) (c .put-if2 .result) (c .put-if2 .last .0)
+wrote-time : (c : tie.After-put-word-if2)
+    → Written (c .before .before .before .before .before .put-word-if .last .0) (c .before .before .before .before .before .put-word-if .result) (wordsOf (time (c .before .before .before .before .before .before .before .before .before .before .before .before .before .before))) (c .put-word-if2 .result) (c .put-word-if2 .last .0)
 unfolding time
-wrote-time c = put-written (time (c .before .before .before .before .before .before .before .before .before .before .before .before .before .before)) refl (first-room _ _ (time (c .before .before .before .before .before .before .before .before .before .before .before .before .before .before)) _ (behind-integral (c .before))) (rw (c .before .time-of .ensures) at (c .put-if2 .ensures))
+wrote-time c = word-written _ _ _ (c .before .time-word .ensures) (c .put-word-if2 .ensures)
 
-behind-time : (c : tie.After-pedestal-of) → c .before .before .before .before .put-if2 .result + length (pedestal (c .before .before .before .before .before .before .before .before .before .before .before .before .before .before .before .before .before .before)) ≤ length (c .before .before .before .before .put-if2 .last .0)
+behind-time : (c : tie.After-pedestal-word) → c .before .before .before .before .put-word-if2 .result + length (pedestal (c .before .before .before .before .before .before .before .before .before .before .before .before .before .before .before .before .before .before)) ≤ length (c .before .before .before .before .put-word-if2 .last .0)
 behind-time c = then-room _ _ (time (c .before .before .before .before .before .before .before .before .before .before .before .before .before .before .before .before .before .before)) (pedestal (c .before .before .before .before .before .before .before .before .before .before .before .before .before .before .before .before .before .before)) _ _ (behind-integral (c .before .before .before .before .before)) (wrote-time (c .before .before .before .before))
 
-wrote-pedestal : (c : tie.After-put-if3)
-    → Written (c .before .before .before .before .before .put-if2 .last .0) (c .before .before .before .before .before .put-if2 .result) (wordsOf (pedestal (c .before .before .before .before .before .before .before .before .before .before .before .before .before .before .before .before .before .before .before))) (c .put-if3 .result) (c .put-if3 .last .0)
+wrote-pedestal : (c : tie.After-put-word-if3)
+    → Written (c .before .before .before .before .before .put-word-if2 .last .0) (c .before .before .before .before .before .put-word-if2 .result) (wordsOf (pedestal (c .before .before .before .before .before .before .before .before .before .before .before .before .before .before .before .before .before .before .before))) (c .put-word-if3 .result) (c .put-word-if3 .last .0)
 unfolding pedestal
-wrote-pedestal c = put-written (pedestal (c .before .before .before .before .before .before .before .before .before .before .before .before .before .before .before .before .before .before .before)) refl (behind-time (c .before)) (rw (c .before .pedestal-of .ensures) at (c .put-if3 .ensures))
+wrote-pedestal c = word-written _ _ _ (c .before .pedestal-word .ensures) (c .put-word-if3 .ensures)
+
+put-word-if-requires : tie.Need-put-word-if-requires
+unfolding integral
+put-word-if-requires c κs = word-room _ _ _ _ _ (first-room _ _ (integral (c .before .before .before .before .before .before .before .before)) _ (behind-raw c))
+
+put-word-if-requires-2 : tie.Need-put-word-if-requires-2
+unfolding time
+put-word-if-requires-2 c κs = word-room _ _ _ _ _ (first-room _ _ (time (c .before .before .before .before .before .before .before .before .before .before .before .before .before)) _ (behind-integral c))
+
+put-word-if-requires-3 : tie.Need-put-word-if-requires-3
+unfolding pedestal
+put-word-if-requires-3 c κs = word-room _ _ _ _ _ (behind-time c)
 
 returns : tie.Need-returns
 unfolding pulseItems raw integral time pedestal
@@ -79,10 +91,10 @@ put-fitting-spec =
     (tie.spec
     put-raw-if-requires
     (λ c κs. tt)
-    (λ c κs. tt)
+    put-word-if-requires
     (λ c κs. search needs)
+    put-word-if-requires-2
     (λ c κs. tt)
-    (λ c κs. tt)
-    (λ c κs. tt)
+    put-word-if-requires-3
     (λ c. search needs)
     returns)

@@ -1,0 +1,13 @@
+-- `finder::time_if` meets its contract. Assumes nothing.
+use borrow.Author.Needs.{needs}
+use Rattle.finder.proofs.time_if.Statement.{statement}
+use Rattle.finder.proofs.time_if.Tie as tie
+
+returns : tie.Need-returns
+returns c = rw (c .before .if1 .taken) (c .time-at .ensures)
+
+returns-2 : tie.Need-returns-2
+returns-2 c = rw (c .before .if1 .left) (c .tc-only .ensures)
+
+pub time-if-spec : {M : Type 1} → statement M
+time-if-spec = tie.close (tie.spec (λ c κs. search needs) (λ c κs. search needs) returns returns-2)
