@@ -1,32 +1,34 @@
 -- Numbers that their fields hold, and the loops over them. Assumes nothing.
-use Prim.Native.Nat.{ℕ, zero, suc, _+_, _*_, _%_, _^_, _-_, _≤_, _<_}
+use Prim.Native.Nat.{ℕ, zero, suc, _+_, _*_, _/_, _%_, _^_, _-_, _≤_, _<_}
 use mathlib.Core.Path.{_≡_, refl, sym, ap, _∙_}
-use mathlib.Core.Bool.{Bool, true, false, false≢true}
-use mathlib.Core.List.{List, [], _∷_}
-use lib.Dec.{leb}
+use mathlib.Core.Bool.{Bool, true, false, _&&_, and-assoc, and-true, false≢true}
+use mathlib.Core.List.{List, [], _∷_, _++_}
+use lib.Dec.{leb, ltb, eqb}
 use native.Mathlib.Omega.{arith}
 use native.Mathlib.Numerals.{add-one}
-use native.Mathlib.Nat.{pow-suc, lt-of-lt-of-le, mod-eq-of-lt}
-use borrow.Author.Tests.{lt-leb, le-leb, leb-true}
-use lib.Pow.{pow-mono}
-use lib.ListN.{length, getD, take, drop, set, replicate, length-drop, length-take, drop-of-length-le}
+use native.Mathlib.Nat.{pow-suc, lt-of-lt-of-le, mod-eq-of-lt, mod-lt}
+use borrow.Author.Tests.{leb-true, lt-ltb, le-ltb}
+use lib.Arith.{mod-mul}
+use lib.Pow.{pow-mono, pow-pos, pow-lt}
+use lib.ListN.{length, getD, take, drop, set, replicate, length-drop, length-take, length-append, drop-of-length-le}
 use lib.Seq.{sets, drop-cons, drop-length, take-all, getD-take, getD-drop}
+use Rattle.ground.specs.Tests.{allLe}
 use Rattle.ground.specs.TestsLaws.{and-left, and-right}
 use Rattle.numbers.specs.Numbers.{modeAt, plAt, slotAt, timesAt, multipleAt, thresholdsAt, most32, settingsLimits, settingsCount, blockAt, eventsAt, eventAt, closedAt, headLimits, headCount, stateCount, heldIn, isSettings, isState, table, markBit, marksNumber}
 
--- ---- held numbers, from place i on
+-- ---- held numbers, from place i on: what was asked and what is left are the whole
 
-pub held-turn : (m n : List ℕ) (i : ℕ) → i < length m → i < length n → getD n i 0 ≤ getD m i 0 → heldIn (drop i m) (drop i n) ≡ heldIn (drop (i + 1) m) (drop (i + 1) n)
+held-step : (m n : List ℕ) (i : ℕ) → i < length m → i < length n → heldIn (drop i m) (drop i n) ≡ leb (getD n i 0) (getD m i 0) && heldIn (drop (i + 1) m) (drop (i + 1) n)
 unfolding heldIn
-held-turn m n i h k e = rw (drop-cons n i 0 k, drop-cons m i 0 h, le-leb _ _ e, add-one i)
+held-step m n i h k = rw (drop-cons n i 0 k, drop-cons m i 0 h, add-one i)
 
-pub held-over : (m n : List ℕ) (i : ℕ) → i < length m → i < length n → getD m i 0 < getD n i 0 → heldIn (drop i m) (drop i n) ≡ false
-unfolding heldIn
-held-over m n i h k e = rw (drop-cons n i 0 k, drop-cons m i 0 h, lt-leb _ _ e)
+module _ (m n : List ℕ) (good : Bool) (i : ℕ) (so-far : good && heldIn (drop i m) (drop i n) ≡ heldIn m n) where
+  pub held-turn : i < length m → i < length n → (good && leb (getD n i 0) (getD m i 0)) && heldIn (drop (i + 1) m) (drop (i + 1) n) ≡ heldIn m n
+  held-turn h k = and-assoc good _ _ ∙ rw (held-step m n i h k) at so-far
 
-pub held-done : (m n : List ℕ) (i : ℕ) → length m ≤ i → length n ≤ i → heldIn (drop i m) (drop i n) ≡ true
-unfolding heldIn
-held-done m n i h k = rw (drop-of-length-le n k, drop-of-length-le m h)
+  pub held-end : length m ≤ i → length n ≤ i → good ≡ heldIn m n
+  unfolding heldIn
+  held-end h k = sym (and-true good) ∙ rw (drop-of-length-le n k, drop-of-length-le m h) at so-far
 
 pub held-length : (m n : List ℕ) → heldIn m n ≡ true → length n ≡ length m
 unfolding heldIn
@@ -49,6 +51,21 @@ held-at [] (y ∷ n) e i = absurd (false≢true e)
 held-at (x ∷ m) [] e i = omega arith
 held-at (x ∷ m) (y ∷ n) e zero = leb-true y x (and-left _ (heldIn m n) e)
 held-at (x ∷ m) (y ∷ n) e (suc i) = held-at m n (and-right (leb y x) _ e) i
+
+-- held in two parts, the second as long as its limits
+pub held-parts : (xs ys ms ns : List ℕ) → length ns ≡ length ys → heldIn (xs ++ ys) (ms ++ ns) ≡ heldIn xs ms && heldIn ys ns
+unfolding heldIn
+held-parts [] ys [] ns e = refl
+held-parts [] ys (n ∷ ms) ns e = held-other ys (n ∷ ms ++ ns) (λ (f : suc (length (ms ++ ns)) ≡ length ys). omega (arith, length-append ms ns))
+held-parts (x ∷ xs) ys [] ns e = held-other (x ∷ xs ++ ys) ns (λ (f : length ns ≡ suc (length (xs ++ ys))). omega (arith, length-append xs ys))
+held-parts (x ∷ xs) ys (n ∷ ms) ns e = ap (λ (b : Bool). leb n x && b) (held-parts xs ys ms ns e) ∙ sym (and-assoc (leb n x) (heldIn xs ms) (heldIn ys ns))
+
+pub held-same : (m k : ℕ) (bs : List ℕ) → length bs ≡ k → heldIn (replicate k m) bs ≡ allLe m bs
+unfolding heldIn allLe
+held-same m zero [] e = refl
+held-same m zero (b ∷ bs) e = absurd (omega arith)
+held-same m (suc k) [] e = absurd (omega arith)
+held-same m (suc k) (b ∷ bs) e = ap (λ (c : Bool). leb b m && c) (held-same m k bs (omega arith))
 
 -- ---- lengths
 
@@ -145,16 +162,31 @@ module _ {A : Type 0} where
   unfolding table
   table-done g m l i h = let e : m - i ≡ 0 = omega arith in rw e
 
-pub getD-out : (l : List ℕ) (i d : ℕ) → length l ≤ i → getD l i d ≡ d
-getD-out [] i d h = refl
-getD-out (x ∷ l) zero d h = absurd (omega arith)
-getD-out (x ∷ l) (suc i) d h = getD-out l i d (omega arith)
-
 -- a part to the end
 pub tail-part : (l : List ℕ) (k : ℕ) → take (length l - k) (drop k l) ≡ drop k l
 tail-part l k = take-all (length l - k) (drop k l) (rw (length-drop k l) (omega arith))
 
--- ---- marks, from the last channel down
+-- ---- marks
+
+-- bit c, asked by two remainders
+pub bit-asked : (n c : ℕ) → ltb (n % 2 ^ c) (n % (2 * 2 ^ c)) ≡ eqb (n / 2 ^ c % 2) 1
+bit-asked n c = rw split (go (n / 2 ^ c % 2) (mod-lt (n / 2 ^ c) (omega arith)))
+  where
+    split : n % (2 * 2 ^ c) ≡ (n / 2 ^ c % 2) * 2 ^ c + n % 2 ^ c
+    split = mod-mul n (omega arith) (pow-pos c)
+
+    go : (d : ℕ) → d < 2 → ltb (n % 2 ^ c) (d * 2 ^ c + n % 2 ^ c) ≡ eqb d 1
+    go zero h = le-ltb (n % 2 ^ c) (0 * 2 ^ c + n % 2 ^ c) (omega arith)
+    go (suc zero) h = lt-ltb (n % 2 ^ c) (1 * 2 ^ c + n % 2 ^ c) (omega (arith, pow-pos c))
+    go (suc (suc d)) h = absurd (omega arith)
+
+pub bit-small : (b c : ℕ) → b ≡ 2 ^ c → c < 16 → (0 < b) × (b < 65536)
+bit-small b c e h = (omega (arith, pow-pos c), omega (arith, pow-lt {i = c} {j = 16} h))
+
+pub bit-next : (b c : ℕ) → b ≡ 2 ^ c → 2 * b ≡ 2 ^ (c + 1)
+bit-next b c e = rw (add-one c, pow-suc 2 c) (omega arith)
+
+-- from the last channel down
 
 pub marks-turn : (bs : List Bool) (i j : ℕ) → i < length bs → suc i ≡ j → marksNumber (drop i bs) ≡ markBit (getD bs i false) + 2 * marksNumber (drop j bs)
 unfolding marksNumber

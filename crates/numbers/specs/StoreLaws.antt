@@ -1,13 +1,14 @@
 -- Loading and storing, part by part. Assumes nothing.
-use Prim.Native.Nat.{ℕ, _%_, _-_, _≤_}
+use Prim.Native.Nat.{ℕ, _%_, _-_, _≤_, _<_}
 use mathlib.Core.Path.{_≡_, sym, ap, ap₂, _∙_}
 use mathlib.Core.Bool.{Bool, true, false, _&&_}
 use mathlib.Core.List.{List, _∷_, [], _++_}
 use native.Mathlib.Omega.{arith}
 use borrow.Author.Tests.{eq-eqb, ne-eqb}
 use lib.Dec.{eqb}
-use lib.ListN.{length, getD, take, drop, length-drop}
+use lib.ListN.{length, getD, take, drop, replicate, length-drop, take-append-drop}
 use lib.Seq.{take-all}
+use Rattle.ground.specs.Tests.{allLe}
 use Rattle.ground.specs.Splice.{splice}
 use Rattle.ground.specs.SpliceLaws.{splice-front, length-splice, row-same}
 use Rattle.copies.specs.Copies.{pasted}
@@ -16,10 +17,27 @@ use Rattle.settings.specs.declared.Settings.{Settings}
 use Rattle.state.specs.declared.Phase.{Phase}
 use Rattle.state.specs.declared.State.{State}
 use Rattle.state.specs.State.{blank}
-use Rattle.numbers.specs.Numbers.{modeAt, nwAt, plAt, nsbAt, nsaAt, limitAt, slotAt, parametersAt, timesAt, multipleAt, thresholdsAt, settingsCount, phaseAt, blockAt, eventsAt, eventAt, triggerTimeAt, marksAt, closedAt, wordsAt, headLimits, headCount, stateCount, heldIn, isSettings, isState, settingsFrom, phaseFrom, marksFrom, stateFrom, settingsOrNone, stateOrNone, phaseNumber, marksNumber, headOf, headStored, stateStored}
-use Rattle.numbers.specs.NumbersLaws.{settings-32, head-32, tail-part}
+use Rattle.numbers.specs.Numbers.{modeAt, nwAt, plAt, nsbAt, nsaAt, limitAt, slotAt, parametersAt, timesAt, multipleAt, thresholdsAt, most32, settingsLimits, settingsCount, phaseAt, blockAt, eventsAt, eventAt, triggerTimeAt, marksAt, closedAt, wordsAt, headLimits, headCount, stateCount, heldIn, isSettings, isState, settingsFrom, phaseFrom, marksFrom, stateFrom, settingsOrNone, stateOrNone, phaseNumber, marksNumber, headOf, headStored, stateStored}
+use Rattle.numbers.specs.NumbersLaws.{held-other, held-parts, held-same, settings-32, head-32, tail-part}
 
 -- ---- asking
+
+-- the fields and the thresholds of settings, as the code cuts them
+pub settings-asked : (n : List ℕ) {l : List ℕ} {f t : Bool} → 16 ≤ length n → l ≡ take thresholdsAt settingsLimits
+    → f ≡ heldIn l (take (length n - 16) n)
+    → t ≡ allLe most32 (take (length n - (length n - 16)) (drop (length n - 16) n))
+    → f && t ≡ isSettings n
+unfolding isSettings
+settings-asked n h e f g =
+    let k : ℕ = length n - 16 in
+    let long : length (drop k n) ≡ 16 = omega (arith, length-drop k n) in
+    ap₂ _&&_ (f ∙ ap (λ (l : List ℕ). heldIn l (take k n)) e) (g ∙ ap (allLe most32) (tail-part n k) ∙ sym (held-same most32 16 (drop k n) long))
+    ∙ sym (held-parts (take thresholdsAt settingsLimits) (replicate 16 most32) (take k n) (drop k n) long)
+    ∙ ap (heldIn settingsLimits) (take-append-drop k n)
+
+pub settings-short : (n : List ℕ) → length n < 16 → isSettings n ≡ false
+unfolding isSettings
+settings-short n h = held-other settingsLimits n (λ (e : length n ≡ settingsCount). omega arith)
 
 -- the two parts of a state's numbers, as the code cuts them
 pub state-asked : (n : List ℕ) {l : List ℕ} {h s : Bool} → l ≡ headLimits → h ≡ heldIn l (take headCount n) → s ≡ isSettings (take (length n - headCount) (drop headCount n)) → h && s ≡ isState n

@@ -1,17 +1,20 @@
 // Which numbers are settings, and which are a state.
 ghost use mathlib.Core.Path.{_≡_};
-ghost use Rattle.numbers.specs.Numbers.{settingsLimits, headLimits, heldIn, isSettings, isState};
+ghost use lib.ListN.{take};
+ghost use Rattle.ground.specs.Tests.{allLe};
+ghost use Rattle.numbers.specs.Numbers.{thresholdsAt, most32, settingsLimits, headLimits, heldIn, isSettings, isState};
+use crate::CHANNELS;
 use crate::HEAD;
-use crate::SETTINGS;
+use crate::THRESHOLDS;
 
 // The greatest numbers of a 32-bit and of a 64-bit field.
 const MOST_32: u64 = 4294967295;
 
 const MOST_64: u64 = 18446744073709551615;
 
-// Of each settings field, in the order of their places.
-fn settings_limits() -> [u64; SETTINGS]
-    ensures { λ r. ⌜ r ≡ settingsLimits ⌝ }
+// Of each settings field before the thresholds, in the order of their places.
+fn field_limits() -> [u64; THRESHOLDS]
+    ensures { λ r. ⌜ r ≡ take thresholdsAt settingsLimits ⌝ }
 {
     [
         MOST_32,
@@ -22,22 +25,6 @@ fn settings_limits() -> [u64; SETTINGS]
         MOST_64,
         MOST_32,
         1,
-        MOST_32,
-        MOST_32,
-        MOST_32,
-        MOST_32,
-        MOST_32,
-        MOST_32,
-        MOST_32,
-        MOST_32,
-        MOST_32,
-        MOST_32,
-        MOST_32,
-        MOST_32,
-        MOST_32,
-        MOST_32,
-        MOST_32,
-        MOST_32,
         MOST_32,
         MOST_32,
     ]
@@ -66,22 +53,41 @@ fn held_in(limits: &[u64], numbers: &[u64]) -> bool
     if numbers.len() != limits.len() {
         return false;
     }
+    let mut good = true;
     let mut i = 0;
-    while i < numbers.len() {
-        if limits[i] < numbers[i] {
-            return false;
-        }
+    while i < limits.len() {
+        good = good & (numbers[i] <= limits[i]);
         i += 1;
     }
-    true
+    good
 }
 
-// As many as the settings are, each held by its field.
+// Each is held by a 32-bit field.
+fn held_in_32(numbers: &[u64]) -> bool
+    ensures { λ r. ⌜ r ≡ allLe most32 (now (numbers .entry)) ⌝ }
+{
+    let mut good = true;
+    let mut i = 0;
+    while i < numbers.len() {
+        good = good & (numbers[i] <= MOST_32);
+        i += 1;
+    }
+    good
+}
+
+// As many as the settings are, each held by its field. The thresholds are taken from the end: at a place that is no constant
+// the compiler asks them sixteen bytes at a time, and need not keep them for the load.
 pub fn is_settings(numbers: &[u64]) -> bool
     ensures { λ r. ⌜ r ≡ isSettings (now (numbers .entry)) ⌝ }
 {
-    let limits = settings_limits();
-    held_in(&limits, numbers)
+    if numbers.len() < CHANNELS {
+        return false;
+    }
+    let first = numbers.len() - CHANNELS;
+    let thresholds = held_in_32(&numbers[first..]);
+    let limits = field_limits();
+    let fields = held_in(&limits, &numbers[..first]);
+    fields & thresholds
 }
 
 // A head that its fields hold, then settings.
@@ -91,8 +97,8 @@ pub fn is_state(numbers: &[u64]) -> bool
     if numbers.len() < HEAD {
         return false;
     }
+    let settings = is_settings(&numbers[HEAD..]);
     let limits = head_limits();
     let head = held_in(&limits, &numbers[..HEAD]);
-    let settings = is_settings(&numbers[HEAD..]);
     head & settings
 }

@@ -26,7 +26,9 @@ const MULTIPLE: usize = 9;
 
 const THRESHOLDS: usize = 10;
 
-pub const SETTINGS: usize = THRESHOLDS + 16;
+const CHANNELS: usize = 16;
+
+pub const SETTINGS: usize = THRESHOLDS + CHANNELS;
 
 // Where a state's own numbers stand, the head; the settings are behind them.
 const PHASE: usize = 0;

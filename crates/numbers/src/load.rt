@@ -1,8 +1,8 @@
 // The settings and the state of numbers.
 ghost use mathlib.Core.Path.{_≡_};
 ghost use mathlib.Core.Bool.{true};
-ghost use Prim.Native.Nat.{_%_};
-ghost use lib.ListN.{getD, take, drop};
+ghost use Prim.Native.Nat.{_%_, _<_};
+ghost use lib.ListN.{length, getD, take, drop};
 ghost use Rattle.numbers.specs.Numbers.{thresholdsAt, isSettings, isState, settingsFrom, phaseFrom, marksFrom, stateFrom, settingsOrNone, stateOrNone};
 use crate::held::is_settings;
 use crate::held::is_state;
@@ -10,18 +10,17 @@ use settings::Settings;
 use state::Phase;
 use state::State;
 
-// The number at a place, 0 past the end.
+// The number at a place.
 fn at(numbers: &[u64], place: usize) -> u64
+    requires { ⌜ place < length (now numbers) ⌝ }
     ensures { λ r. ⌜ r ≡ getD (now (numbers .entry)) place 0 ⌝ }
 {
-    if place < numbers.len() {
-        return numbers[place];
-    }
-    0
+    numbers[place]
 }
 
 // The same as a 32-bit field: its low bits.
 fn at32(numbers: &[u64], place: usize) -> u32
+    requires { ⌜ place < length (now numbers) ⌝ }
     ensures { λ r. ⌜ r ≡ getD (now (numbers .entry)) place 0 % 4294967296 ⌝ }
 {
     (at(numbers, place) % 4294967296) as u32
@@ -84,14 +83,19 @@ fn phase_from(number: u64) -> Phase
     Phase::Event
 }
 
-// Channel c is posted where bit c is set.
+// Channel c is posted where bit c is set: what is left of the number by 2 ^ (c + 1) is over what is left by 2 ^ c. Two remainders
+// compared become vector code, where a bit shifted down does not.
 fn marks_from(number: u64) -> [bool; 16]
+    requires { ⌜ number < 65536 ⌝ }
     ensures { λ r. ⌜ r ≡ marksFrom number ⌝ }
 {
+    let low = number as u32;
     let mut marks = [false; 16];
+    let mut bit: u32 = 1;
     let mut channel: usize = 0;
     while channel < 16 {
-        marks[channel] = (number >> channel) % 2 == 1;
+        marks[channel] = low % bit < low % (2 * bit);
+        bit = 2 * bit;
         channel += 1;
     }
     marks

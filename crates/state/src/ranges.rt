@@ -47,14 +47,13 @@ fn words_ok(parameters: bool, times: u32, closed: u32, words: usize) -> bool
 fn no_marks(posted: &[bool]) -> bool
     ensures { λ r. ⌜ r ≡ noMarks (now (posted .entry)) ⌝ }
 {
+    let mut clear = true;
     let mut channel = 0;
     while channel < posted.len() {
-        if posted[channel] {
-            return false;
-        }
+        clear = clear & !posted[channel];
         channel += 1;
     }
-    true
+    clear
 }
 
 // The numbers of an open block are within their ranges.

@@ -1,31 +1,31 @@
--- `numbers::held::held_in` meets its contract. Assumes nothing.
+-- `numbers::held::held_in` meets its contract. The invariant: what was asked and what is left are the whole. Assumes nothing.
 use Prim.Native.Nat.{_-_}
-use mathlib.Core.Path.{_≡_, refl, sym, _∙_}
+use mathlib.Core.Path.{_≡_, refl, sym}
+use mathlib.Core.Bool.{_&&_}
 use native.Mathlib.Omega.{arith}
 use borrow.Author.Needs.{needs}
 use lib.ListN.{length, drop}
 use Rattle.numbers.specs.Numbers.{heldIn}
-use Rattle.numbers.specs.NumbersLaws.{held-other, held-over, held-turn, held-done}
+use Rattle.numbers.specs.NumbersLaws.{held-other, held-turn, held-end}
 use Rattle.numbers.proofs.held.held_in.Statement.{statement}
 use Rattle.numbers.proofs.held.held_in.Tie as tie
 
 abbrev Inv-loop : tie.InvT-loop
-Inv-loop limits numbers i₀ i = heldIn limits numbers ≡ heldIn (drop i limits) (drop i numbers)
+Inv-loop limits numbers good₀ i₀ good i = good && heldIn (drop i limits) (drop i numbers) ≡ heldIn limits numbers
 
 abbrev μ-loop : tie.MeasureT-loop
-μ-loop limits numbers i₀ i = length numbers - i
+μ-loop limits numbers good₀ i₀ good i = length limits - i
 
 returns : tie.Need-returns Inv-loop μ-loop
 returns c = sym (held-other _ _ (c .if1 .taken))
 
-returns-2 : tie.Need-returns-2 Inv-loop μ-loop
-returns-2 c = sym (c .before .before .before .before .loop .inv ∙ held-over _ _ _ (omega arith) (c .before .before .before .loop-test .taken) (c .if2 .taken))
-
 loop-again : tie.Need-loop-again Inv-loop μ-loop
-loop-again c = c .before .before .before .before .loop .inv ∙ held-turn _ _ _ (omega arith) (c .before .before .before .loop-test .taken) (c .if2 .left)
+loop-again c =
+    let head = c .before .before .before .loop in
+    held-turn _ _ (head .good) (head .i) (head .inv) (omega arith) (omega arith)
 
-returns-3 : tie.Need-returns-3 Inv-loop μ-loop
-returns-3 c = sym (c .before .loop .inv ∙ held-done _ _ _ (omega arith) (c .loop-test .left))
+returns-2 : tie.Need-returns-2 Inv-loop μ-loop
+returns-2 c = held-end _ _ _ _ (c .before .loop .inv) (c .loop-test .left) (omega arith)
 
 pub held-in-spec : {M : Type 1} → statement M
 held-in-spec =
@@ -39,8 +39,7 @@ held-in-spec =
     (λ c. search needs)
     (λ c. search needs)
     (λ c. search needs)
-    returns-2
     (λ c. search needs)
     (λ c. search needs)
     loop-again
-    returns-3)
+    returns-2)

@@ -1,16 +1,40 @@
 -- `numbers::held::is_settings` meets its contract. Assumes nothing.
-use mathlib.Core.Path.{ap, _∙_}
-use mathlib.Core.List.{List}
-use Prim.Native.Nat.{ℕ}
+use Prim.Native.Nat.{_-_}
+use mathlib.Core.Path.{sym}
+use native.Mathlib.Omega.{arith}
 use borrow.Author.Needs.{needs}
-use Rattle.numbers.specs.Numbers.{heldIn, isSettings}
+use lib.ListN.{length, length-take}
+use Rattle.numbers.specs.StoreLaws.{settings-short, settings-asked}
 use Rattle.numbers.proofs.held.is_settings.Statement.{statement}
 use Rattle.numbers.proofs.held.is_settings.Tie as tie
 
 returns : tie.Need-returns
-unfolding isSettings
-returns c = c .held-in .ensures ∙ ap (λ (m : List ℕ). heldIn m (c .before .before .before .before .args .numbers .now)) (c .before .before .settings-limits .ensures)
+returns c = sym (settings-short (c .before .before .args .numbers .now) (c .if1 .taken))
+
+slice-aggregate-held-in-2 : tie.Need-slice-aggregate-held-in-2
+slice-aggregate-held-in-2 c =
+    let n = c .before .before .before .before .before .before .before .args .numbers .now in
+    omega (arith, length-take (length n - 16) n)
+
+returns-2 : tie.Need-returns-2
+returns-2 c =
+    let thresholds = c .before .before .before .before in
+    let long = thresholds .before .before in
+    settings-asked (long .before .before .args .numbers .now) (long .if1 .left) (c .before .before .before .field-limits .ensures) (c .held-in .ensures) (thresholds .held-in-32 .ensures)
 
 pub is-settings-spec : {M : Type 1} → statement M
 is-settings-spec =
-    tie.close (tie.spec (λ c κs. search needs) (λ c. search needs) (λ c κs. search needs) returns)
+    tie.close
+    (tie.spec
+    returns
+    (λ c. search needs)
+    (λ c. search needs)
+    (λ c. search needs)
+    (λ c. search needs)
+    (λ c. search needs)
+    (λ c κs. search needs)
+    (λ c κs. search needs)
+    (λ c. search needs)
+    slice-aggregate-held-in-2
+    (λ c κs. search needs)
+    returns-2)

@@ -1,5 +1,6 @@
 -- `numbers::load::settings_from` meets its contract. Assumes nothing.
 use borrow.Author.Needs.{needs}
+use Rattle.numbers.specs.NumbersLaws.{settings-count}
 use Rattle.numbers.specs.StoreLaws.{settings-loaded}
 use Rattle.numbers.proofs.load.settings_from.Statement.{statement}
 use Rattle.numbers.proofs.load.settings_from.Tie as tie
@@ -18,14 +19,14 @@ settings-from-spec =
     tie.close
     (tie.spec
     (λ c κs. search needs)
-    (λ c κs. search needs)
-    (λ c κs. search needs)
-    (λ c κs. search needs)
-    (λ c κs. search needs)
-    (λ c κs. search needs)
-    (λ c κs. search needs)
-    (λ c κs. search needs)
-    (λ c κs. search needs)
-    (λ c κs. search needs)
-    (λ c κs. search needs)
+    (λ c κs. search (needs, settings-count))
+    (λ c κs. search (needs, settings-count))
+    (λ c κs. search (needs, settings-count))
+    (λ c κs. search (needs, settings-count))
+    (λ c κs. search (needs, settings-count))
+    (λ c κs. search (needs, settings-count))
+    (λ c κs. search (needs, settings-count))
+    (λ c κs. search (needs, settings-count))
+    (λ c κs. search (needs, settings-count))
+    (λ c κs. search (needs, settings-count))
     returns)

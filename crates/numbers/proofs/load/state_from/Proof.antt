@@ -1,8 +1,8 @@
 -- `numbers::load::state_from` meets its contract. Assumes nothing.
 use native.Mathlib.Omega.{arith}
 use borrow.Author.Needs.{needs}
-use Rattle.numbers.specs.Numbers.{headCount}
-use Rattle.numbers.specs.NumbersLaws.{state-count, state-settings-held, tail-part}
+use Rattle.numbers.specs.Numbers.{headCount, marksAt}
+use Rattle.numbers.specs.NumbersLaws.{state-count, state-settings-held, head-held, tail-part}
 use Rattle.numbers.specs.StoreLaws.{state-loaded}
 use Rattle.numbers.proofs.load.state_from.Statement.{statement}
 use Rattle.numbers.proofs.load.state_from.Tie as tie
@@ -12,6 +12,9 @@ sub-settings-from c = omega (arith, state-count _ (c .before .pre))
 
 settings-from-requires : tie.Need-settings-from-requires
 settings-from-requires c κs = rw (tail-part (c .before .before .args .numbers .now) headCount) (state-settings-held _ (c .before .before .pre))
+
+marks-from-requires : tie.Need-marks-from-requires
+marks-from-requires c κs = omega (arith, c .at2 .ensures, head-held _ (c .before .before .before .before .before .before .pre) marksAt (omega arith))
 
 returns : tie.Need-returns
 returns c =
@@ -29,14 +32,14 @@ state-from-spec =
     sub-settings-from
     (λ c. search needs)
     settings-from-requires
+    (λ c κs. search (needs, state-count))
     (λ c κs. search needs)
-    (λ c κs. search needs)
-    (λ c κs. search needs)
-    (λ c κs. search needs)
-    (λ c κs. search needs)
-    (λ c κs. search needs)
-    (λ c κs. search needs)
-    (λ c κs. search needs)
-    (λ c κs. search needs)
-    (λ c κs. search needs)
+    (λ c κs. search (needs, state-count))
+    marks-from-requires
+    (λ c κs. search (needs, state-count))
+    (λ c κs. search (needs, state-count))
+    (λ c κs. search (needs, state-count))
+    (λ c κs. search (needs, state-count))
+    (λ c κs. search (needs, state-count))
+    (λ c κs. search (needs, state-count))
     returns)

@@ -8,7 +8,7 @@ use lib.ListN.{length, take, drop, set, replicate, length-set}
 use Rattle.ground.specs.CopyLaws.{Copied, copy-start, copy-turn, copy-end}
 use Rattle.ground.specs.SpliceLaws.{splice-all}
 use Rattle.numbers.specs.Numbers.{thresholdsAt}
-use Rattle.numbers.specs.NumbersLaws.{thresholds-16, threshold-at}
+use Rattle.numbers.specs.NumbersLaws.{settings-count, thresholds-16, threshold-at}
 use Rattle.numbers.proofs.load.thresholds_from.Statement.{statement}
 use Rattle.numbers.proofs.load.thresholds_from.Tie as tie
 
@@ -18,6 +18,9 @@ Inv-loop numbers thresholds₀ channel₀ thresholds channel =
 
 abbrev μ-loop : tie.MeasureT-loop
 μ-loop numbers thresholds₀ channel₀ thresholds channel = 16 - channel
+
+at32-requires : tie.Need-at32-requires Inv-loop μ-loop
+at32-requires c κs = omega (arith, settings-count _ (c .before .before .before .pre))
 
 loop-again : tie.Need-loop-again Inv-loop μ-loop
 loop-again c =
@@ -47,7 +50,7 @@ thresholds-from-spec =
     μ-loop
     (λ c. (refl, copy-start _ 0 _))
     (λ c. search needs)
-    (λ c κs. search needs)
+    at32-requires
     (λ c. search needs)
     (λ c. search needs)
     (λ c. search needs)

@@ -1,0 +1,10 @@
+-- `numbers::held::field_limits` meets its contract. Assumes nothing.
+use mathlib.Core.Path.{refl}
+use Rattle.numbers.proofs.held.field_limits.Statement.{statement}
+use Rattle.numbers.proofs.held.field_limits.Tie as tie
+
+returns : tie.Need-returns
+returns c = refl
+
+pub field-limits-spec : {M : Type 1} → statement M
+field-limits-spec = tie.close (tie.spec returns)
