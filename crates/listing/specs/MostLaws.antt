@@ -1,5 +1,5 @@
 -- How long a text can be: at most 23 bytes a word, and one refusal's line. Assumes nothing.
-use Prim.Native.Nat.{ℕ, zero, suc, _+_, _-_, _*_, _%_, _^_, _≤_, _<_}
+use Prim.Native.Nat.{ℕ, zero, suc, _+_, _-_, _*_, _/_, _%_, _^_, _≤_, _<_}
 use mathlib.Core.Path.{_≡_, refl, sym, ap, _∙_}
 use mathlib.Core.Bool.{Bool, true, false, cond, not, _||_}
 use mathlib.Core.List.{List, [], _∷_, _++_}
@@ -167,11 +167,12 @@ small-reading s (word ∷ words) h = go (judgeAt s word) (good s word h) (λ t n
     go (J.Refused n p) g r = small-none (Broken n p) (refused-le n p (g .0) (g .1))
     go J.Ended g r = small-none (Whole (s .place)) (omega (arith, size-none))
 
-fill-le : (n : ℕ) → n < 10 ^ 17 → size (fillLines n) ≤ 23 * n
+fill-le : (n : ℕ) → n < 10 ^ 20 → size (fillLines n) ≤ 23 * n
 fill-le zero h = omega (arith, size-none)
-fill-le (suc n) h = rw (ne-eqb (suc n) 0 (λ e. omega arith)) (omega (arith, size-one fillName (Number (suc n) ∷ []) (16 ∷ []) 23 (h, tt) (lit≤ tt)))
+fill-le (suc zero) h = size-one fillName (Number 1 ∷ []) (0 ∷ []) 23 (lit< tt, tt) (lit≤ tt)
+fill-le (suc (suc n)) h = rw (ne-eqb (suc (suc n)) 0 (λ e. omega arith)) (omega (arith, size-one fillName (Number (suc (suc n)) ∷ []) (19 ∷ []) 26 (h, tt) (lit≤ tt)))
 
-block-le : (r : Reading) → SmallReading r → length (r .items) < 10 ^ 17 → size (blockLines r) ≤ 23 * length (r .items) + size (outLines (r .out))
+block-le : (r : Reading) → SmallReading r → length (r .items) < 10 ^ 20 → size (blockLines r) ≤ 23 * length (r .items) + size (outLines (r .out))
 unfolding blockLines
 block-le r i h =
     let n = fillersIn (r .items) in
@@ -179,7 +180,7 @@ block-le r i h =
 
 -- ---- an input
 
-lines-le : (skip : ℕ) (words : List ℕ) → length words < 10 ^ 17 → size (linesFrom skip words) ≤ 23 * (length words - skip) + 22
+lines-le : (skip : ℕ) (words : List ℕ) → length words < 10 ^ 20 → size (linesFrom skip words) ≤ 23 * (length words - skip) + 22
 unfolding linesFrom
 lines-le skip [] h = omega (arith, size-none)
 lines-le (suc skip) (word ∷ words) h = omega (arith, lines-le skip words (omega arith))
@@ -200,6 +201,11 @@ lines-le zero (word ∷ words) h =
     go (Whole n) block behind a b w d = omega (arith, count, w refl, size-none, size-both block behind)
     go (Broken n p) block behind a b w d = omega (arith, count, size-none, size-both block [])
 
+pub unless-le : (wrong : Bool) (bytes : List ℕ) → length bytes < 10 ^ 20 → size (linesUnless wrong bytes) ≤ 23 * (length bytes / 4) + 22
+unfolding linesUnless
+unless-le true bytes h = omega (arith, refused-le 16 0 (lit< tt) (lit< tt))
+unless-le false bytes h = omega (arith, words-le bytes, lines-le 0 (wordsOfBytes bytes) (omega (arith, words-le bytes)))
+
 pub listing-le : (bytes : List ℕ) → length (listingOf bytes) ≤ 376854
 unfolding listingOf linesUnless
 listing-le bytes = go (lengthWrong (length bytes)) refl
@@ -208,20 +214,16 @@ listing-le bytes = go (lengthWrong (length bytes)) refl
     short true n e = let z : _≡_ {A = ℕ} 0 1 = cc in omega arith
     short false n e = ltb-false 65536 n e
 
-    go : (b : Bool) → lengthWrong (length bytes) ≡ b → size (cond b (refusedLine 16 0 ∷ []) (linesFrom 0 (wordsOfBytes bytes))) ≤ 376854
+    go : (b : Bool) → lengthWrong (length bytes) ≡ b → size (linesUnless b bytes) ≤ 376854
     go true e = omega (arith, refused-le 16 0 (lit< tt) (lit< tt))
     go false e =
         let n : length bytes ≤ 65536 = short (cutWrong (length bytes)) (length bytes) e in
-        omega (arith, words-le bytes, lines-le 0 (wordsOfBytes bytes) (omega (arith, words-le bytes)))
+        omega (arith, unless-le false bytes (omega arith))
 
 -- without the limit: the text of fewer than 10 ^ 17 bytes, more than any memory has, is counted whole
 pub long-counted : (bytes : List ℕ) → length bytes < 10 ^ 17 → counted (longListingOf bytes) ≡ length (longListingOf bytes)
-unfolding longListingOf linesUnless
-long-counted bytes h = omega (arith, go (cutWrong (length bytes)))
-  where
-    go : (b : Bool) → size (cond b (refusedLine 16 0 ∷ []) (linesFrom 0 (wordsOfBytes bytes))) ≤ 23 * length bytes + 22
-    go true = omega (arith, refused-le 16 0 (lit< tt) (lit< tt))
-    go false = omega (arith, words-le bytes, lines-le 0 (wordsOfBytes bytes) (omega (arith, words-le bytes)))
+unfolding longListingOf
+long-counted bytes h = omega (arith, unless-le (cutWrong (length bytes)) bytes (omega arith))
 
 -- a buffer of so many bytes has room for every text
 pub always-room : (bytes : List ℕ) {text : List ℕ} {r : Listed} {text′ : List ℕ} {n : ℕ} → 376854 ≤ length text → r ≡ L.NoRoom n → ListSays (listingOf bytes) text r text′ → ⊥

@@ -8,10 +8,16 @@ use lib.ListN.{length, drop, take, length-append}
 use lib.Seq.{length-take-le}
 use Rattle.ground.specs.ResultLaws.{one-result}
 use Rattle.text.specs.Page.{Page, farthest, put}
-use Rattle.text.specs.PageLaws.{none-put, none-count, short, fitting}
+use Rattle.text.specs.PageLaws.{all-fits, none-put, none-count, short, fitting}
 use Rattle.listing.specs.declared.Listed.{Listed}
 use Rattle.listing.specs.declared.Listed.the-variants as L
 use Rattle.listing.specs.Says.{listedNumber, listedValue, textHasRoom, counted, TextSays, ListSays, LongSays, LengthSays}
+
+-- where its length is known to fit, it is not counted
+pub room-sure : (all text : List ℕ) (r : ℕ) (text′ : List ℕ) → length all ≤ length text → length text < farthest → _≡_ {A = Page} (text′, r) (put (text, 0) all) → LongSays all text (L.Text r) text′
+room-sure all text r text′ h m g =
+    let p = all-fits text all r text′ h m g in
+    record { number = rw (p .1); value = p .0; bytes = rw (p .1) (p .2) }
 
 module _ (all text none : List ℕ) (n : ℕ) (e : _≡_ {A = Page} (none, n) (put ([], 0) all)) where
   pub no-room : length (none ++ text) < n → LongSays all text (L.NoRoom n) (none ++ text)

@@ -16,6 +16,9 @@ use scan::Scan;
 // The most bytes of an input of the lister.
 pub const LONGEST: usize = 65536;
 
+// The most bytes of the text of a word; a refusal behind them has at most one fewer.
+const WORD_MOST: usize = 23;
+
 // What one block leaves: the next place of the text, the bytes that it takes, whether it is whole.
 pub struct Block {
     pub at: usize,
@@ -104,10 +107,14 @@ fn put_listing(wrong: bool, bytes: &[u8], text: &mut [u8]) -> usize
     list_blocks(bytes, text)
 }
 
-// The text where it fits; where it does not, the buffer stays as it was. It is counted first, on no page at all.
+// The text where it fits; where it does not, the buffer stays as it was. Unless every text has room, it is counted first,
+// on no page at all.
 fn list_unless(wrong: bool, bytes: &[u8], text: &mut [u8]) -> Listed
     ensures { λ r. ⌜ LongSays (textOf (linesUnless wrong (now (bytes .entry)))) (now (text .entry)) r (now (text .exit)) ⌝ }
 {
+    if bytes.len() / 4 < (text.len() + 1) / WORD_MOST {
+        return Listed::Text(put_listing(wrong, bytes, text));
+    }
     let length = put_listing(wrong, bytes, &mut text[..0]);
     if text.len() < length {
         return Listed::NoRoom(length);

@@ -89,6 +89,9 @@ as-sets l at (x ∷ xs) h = ap (λ (k : ℕ). put (set l at x, k) xs .0) next �
 pub put-all : (l xs : List ℕ) → length xs ≤ length l → length l ≤ farthest → put (l, 0) xs .0 ≡ xs ++ drop (length xs) l
 put-all l xs h k = as-sets l 0 xs (omega arith) ∙ sets-eq xs l 0 (omega arith) ∙ rw zero-add
 
+pub all-fits : (l all : List ℕ) (r : ℕ) (l′ : List ℕ) → length all ≤ length l → length l < farthest → _≡_ {A = Page} (l′, r) (put (l, 0) all) → (r ≡ min (length all) farthest) × (leb (length all) (length l) ≡ true) × (l′ ≡ all ++ drop (length all) l)
+all-fits l all r l′ h m g = (ap (λ (p : Page). p .1) g ∙ place-all l all, le-leb (length all) (length l) h, ap (λ (p : Page). p .0) g ∙ put-all l all h (omega arith))
+
 -- ---- put on no page first, and so counted; then where all fits
 
 nil-of : (l : List ℕ) → length l ≡ 0 → l ≡ []
@@ -109,7 +112,5 @@ module _ (all l none : List ℕ) (n : ℕ) (e : _≡_ {A = Page} (none, n) (put 
 
   pub fitting : (r : ℕ) (l′ : List ℕ) → n ≤ length (none ++ l) → length l < farthest → _≡_ {A = Page} (l′, r) (put (none ++ l, 0) all) → (r ≡ min (length all) farthest) × (leb (length all) (length l) ≡ true) × (l′ ≡ all ++ drop (length all) l)
   fitting r l′ h m g =
-      let g′ : _≡_ {A = Page} (l′, r) (put (l, 0) all) = rw none-put at g in
       let k : n ≤ length l = rw none-put at h in
-      let i : length all ≤ length l = omega (arith, none-count) in
-      (ap (λ (p : Page). p .1) g′ ∙ place-all l all, le-leb (length all) (length l) i, ap (λ (p : Page). p .0) g′ ∙ put-all l all i (omega arith))
+      all-fits l all r l′ (omega (arith, none-count)) m (rw none-put at g)
