@@ -87,10 +87,8 @@ static bool state_ok(const uint64_t *state, size_t m)
 /* The place of the next pulse behind the one at `start`; NW if there is none. */
 static inline size_t next_start(const uint64_t *settings, uint32_t threshold, const uint16_t *window, size_t start)
 {
-    const size_t nw = settings[FADC250_NW], from = start + 1 + settings[FADC250_NSA];
-    if (from >= nw)
-        return nw;
-    return find_start(window, from, nw, threshold, amplitude(window[from - 1]) > threshold);
+    const size_t nw = settings[FADC250_NW], neighbour = start + settings[FADC250_NSA];
+    return neighbour < nw ? first_start(window, neighbour, nw, threshold) : nw;
 }
 
 /* The data set: from `first`, up to and without `end`. */
@@ -182,7 +180,7 @@ uint32_t CALL(find)(const uint64_t *settings, size_t n, uint32_t channel, const 
     if (refusal != FADC250_ACCEPTED)
         return refusal;
     const uint32_t threshold = (uint32_t)settings[FADC250_THRESHOLDS + channel];
-    const size_t first = find_start(window, 0, len, threshold, false);
+    const size_t first = first_over(window, 0, len, threshold);
     size_t start = first;
     uint32_t count = 0;
     while (start < len && count < settings[FADC250_LIMIT]) {
@@ -262,7 +260,7 @@ static uint32_t *put_channel(const uint64_t *settings, uint32_t channel, const u
 {
     const uint64_t mode = settings[FADC250_MODE];
     const uint32_t threshold = (uint32_t)settings[FADC250_THRESHOLDS + channel];
-    const size_t nw = settings[FADC250_NW], first = find_start(window, 0, nw, threshold, false);
+    const size_t nw = settings[FADC250_NW], first = first_over(window, 0, nw, threshold);
     if (first < nw && (mode == 1 || mode == 8)) {
         *to++ = defining(WINDOW, channel << 23 | (uint32_t)nw);
         to = put_samples(window, nw, to);
@@ -307,7 +305,7 @@ static size_t channel_length(const uint64_t *settings, uint32_t channel, const u
     const uint64_t mode = settings[FADC250_MODE];
     const uint32_t threshold = (uint32_t)settings[FADC250_THRESHOLDS + channel];
     const size_t nw = settings[FADC250_NW];
-    size_t start = find_start(window, 0, nw, threshold, false);
+    size_t start = first_over(window, 0, nw, threshold);
     size_t length = start < nw && (mode == 1 || mode == 8) ? 1 + (nw + 1) / 2 : 0;
     if (mode == 1)
         return length;
@@ -525,7 +523,7 @@ static inline uint64_t check_raw(struct block block, uint64_t place, uint32_t he
         return refused(FADC250_BAD_FIELD, place);
     place++;
     const size_t most = least(MOST_RAW_PAIRS, block.end - place);
-    const size_t found = count_whole_pairs(block.bytes + 4 * place, most);
+    const size_t found = count_few_pairs(block.bytes + 4 * place, most);
     place += found;
     if (found == most)
         return place;

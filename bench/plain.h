@@ -11,17 +11,22 @@ static inline bool samples_ok(const uint16_t *samples, size_t n)
     return all <= MOST_SAMPLE;
 }
 
-/* The least i from `from` on that is over and whose neighbour before is not; n if there is none. `before` says
-   whether the sample before `from` is over. */
-static inline size_t find_start(const uint16_t *samples, size_t from, size_t n, uint32_t threshold, bool before)
+/* The least i from `from` on that is over; n if there is none. */
+static inline size_t first_over(const uint16_t *samples, size_t from, size_t n, uint32_t threshold)
 {
-    for (size_t i = from; i < n; i++) {
-        const bool over = amplitude(samples[i]) > threshold;
-        if (over && !before)
+    for (size_t i = from; i < n; i++)
+        if (amplitude(samples[i]) > threshold)
             return i;
-        before = over;
-    }
     return n;
+}
+
+/* The least i behind `from` that is over and whose neighbour before is not; n if there is none. So it is the first
+   that is over behind the first that is not. */
+static inline size_t first_start(const uint16_t *samples, size_t from, size_t n, uint32_t threshold)
+{
+    while (from < n && amplitude(samples[from]) > threshold)
+        from++;
+    return first_over(samples, from, n, threshold);
 }
 
 static inline uint32_t sum_of(const uint16_t *samples, size_t n)
@@ -45,6 +50,12 @@ static inline size_t count_whole_pairs(const uint8_t *bytes, size_t most)
     while (i < most && (word_at(bytes, i) & PAIR_ZERO) == 0)
         i++;
     return i;
+}
+
+/* The same where only a few are expected. */
+static inline size_t count_few_pairs(const uint8_t *bytes, size_t most)
+{
+    return count_whole_pairs(bytes, most);
 }
 
 /* How many of the words, from the first on, are good items of one word. */

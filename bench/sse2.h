@@ -42,44 +42,56 @@ static inline bool samples_ok(const uint16_t *samples, size_t n)
     return fold(either(a, b)) <= MOST_SAMPLE;
 }
 
+static inline __m128i amplitudes(const uint16_t *samples)
+{
+    return _mm_and_si128(load(samples), _mm_set1_epi16(AMPLITUDE));
+}
+
 /* A bit for each of 16 samples: it is over. */
 static inline uint32_t over_mask(const uint16_t *samples, __m128i threshold)
 {
-    const __m128i bits = _mm_set1_epi16(AMPLITUDE);
-    const __m128i low = _mm_cmpgt_epi16(_mm_and_si128(load(samples), bits), threshold);
-    const __m128i high = _mm_cmpgt_epi16(_mm_and_si128(load(samples + 8), bits), threshold);
+    const __m128i low = _mm_cmpgt_epi16(amplitudes(samples), threshold);
+    const __m128i high = _mm_cmpgt_epi16(amplitudes(samples + 8), threshold);
     return (uint32_t)_mm_movemask_epi8(_mm_packs_epi16(low, high));
 }
 
-/* The bits of the samples that are over and follow one that is not. */
-static inline uint32_t starts_of(uint32_t over, bool before)
+/* One of 32 samples is over: their greatest is. */
+static inline bool any_over(const uint16_t *samples, __m128i threshold)
 {
-    return over & ~(over << 1 | before);
+    const __m128i low = _mm_max_epi16(amplitudes(samples), amplitudes(samples + 8));
+    const __m128i high = _mm_max_epi16(amplitudes(samples + 16), amplitudes(samples + 24));
+    return _mm_movemask_epi8(_mm_cmpgt_epi16(_mm_max_epi16(low, high), threshold)) != 0;
 }
 
-static inline size_t find_start(const uint16_t *samples, size_t from, size_t n, uint32_t threshold, bool before)
+/* 16 samples, as pulses are often near, then 32 at a time while none is over. The last 16 overlap those before, which
+   are shifted out. */
+static inline size_t first_over(const uint16_t *samples, size_t from, size_t n, uint32_t threshold)
 {
     const __m128i limit = _mm_set1_epi16((short)threshold);
     size_t i = from;
-    for (; i + 16 <= n; i += 16) {
+    while (i + 16 <= n) {
         const uint32_t over = over_mask(samples + i, limit);
-        const uint32_t starts = starts_of(over, before);
-        if (starts != 0)
-            return i + (size_t)__builtin_ctz(starts);
-        before = over >> 15;
+        if (over != 0)
+            return i + (size_t)__builtin_ctz(over);
+        i += 16;
+        while (i + 32 <= n && !any_over(samples + i, limit))
+            i += 32;
     }
     if (n >= 16 && i < n) {
-        /* The last 16, of which those before i are shifted out. */
-        const uint32_t starts = starts_of(over_mask(samples + n - 16, limit) >> (i + 16 - n), before);
-        return starts != 0 ? i + (size_t)__builtin_ctz(starts) : n;
+        const uint32_t over = over_mask(samples + n - 16, limit) >> (i + 16 - n);
+        return over != 0 ? i + (size_t)__builtin_ctz(over) : n;
     }
-    for (; i < n; i++) {
-        const bool over = amplitude(samples[i]) > threshold;
-        if (over && !before)
-            return i;
-        before = over;
-    }
-    return n;
+    while (i < n && amplitude(samples[i]) <= threshold)
+        i++;
+    return i;
+}
+
+/* Few samples behind a pulse are still over: they are passed one by one. */
+static inline size_t first_start(const uint16_t *samples, size_t from, size_t n, uint32_t threshold)
+{
+    while (from < n && amplitude(samples[from]) > threshold)
+        from++;
+    return first_over(samples, from, n, threshold);
 }
 
 static inline uint32_t sum_of(const uint16_t *samples, size_t n)
@@ -88,7 +100,7 @@ static inline uint32_t sum_of(const uint16_t *samples, size_t n)
     __m128i sums = _mm_setzero_si128();
     size_t i = 0;
     for (; i + 8 <= n; i += 8)
-        sums = _mm_add_epi32(sums, _mm_madd_epi16(_mm_and_si128(load(samples + i), bits), ones));
+        sums = _mm_add_epi32(sums, _mm_madd_epi16(amplitudes(samples + i), ones));
     if (i + 4 <= n) {
         const __m128i four = _mm_loadl_epi64((const void *)(samples + i));
         sums = _mm_add_epi32(sums, _mm_madd_epi16(_mm_and_si128(four, bits), ones));
@@ -103,12 +115,22 @@ static inline uint32_t sum_of(const uint16_t *samples, size_t n)
 }
 
 /* A word of memory holds the second sample above the first: the halves change places. */
+static inline void put_four_pairs(const uint16_t *samples, uint32_t *to)
+{
+    const __m128i swapped = _mm_shufflehi_epi16(_mm_shufflelo_epi16(load(samples), 0xB1), 0xB1);
+    _mm_storeu_si128((__m128i *)to, swapped);
+}
+
 static inline void put_whole_pairs(const uint16_t *samples, size_t pairs, uint32_t *to)
 {
     size_t i = 0;
-    for (; i + 4 <= pairs; i += 4) {
-        const __m128i v = load(samples + 2 * i);
-        _mm_storeu_si128((__m128i *)(to + i), either(_mm_slli_epi32(v, 16), _mm_srli_epi32(v, 16)));
+    for (; i + 8 <= pairs; i += 8) {
+        put_four_pairs(samples + 2 * i, to + i);
+        put_four_pairs(samples + 2 * i + 8, to + i + 4);
+    }
+    if (i + 4 <= pairs) {
+        put_four_pairs(samples + 2 * i, to + i);
+        i += 4;
     }
     for (; i < pairs; i++)
         to[i] = pair(samples[2 * i], samples[2 * i + 1]);
@@ -121,25 +143,42 @@ static inline size_t leading(uint32_t good)
 }
 
 /* The bytes are big-endian: they are left as they stand, and the masks are turned. */
-static inline size_t count_whole_pairs(const uint8_t *bytes, size_t most)
+static inline uint32_t whole_pair_mask(__m128i four)
 {
-    const __m128i zero_bits = _mm_set1_epi32((int)__builtin_bswap32(PAIR_ZERO)), zero = _mm_setzero_si128();
+    const __m128i zero_bits = _mm_set1_epi32((int)__builtin_bswap32(PAIR_ZERO));
+    return (uint32_t)_mm_movemask_epi8(_mm_cmpeq_epi32(_mm_and_si128(four, zero_bits), _mm_setzero_si128()));
+}
+
+static inline size_t count_few_pairs(const uint8_t *bytes, size_t most)
+{
     size_t i = 0;
-    for (; i + 16 <= most; i += 16) {
-        const uint8_t *at = bytes + 4 * i;
-        const __m128i all = either(either(load(at), load(at + 16)), either(load(at + 32), load(at + 48)));
-        if (_mm_movemask_epi8(_mm_cmpeq_epi32(_mm_and_si128(all, zero_bits), zero)) != 0xFFFF)
-            break;
-    }
     for (; i + 4 <= most; i += 4) {
-        const __m128i four = _mm_and_si128(load(bytes + 4 * i), zero_bits);
-        const uint32_t good = (uint32_t)_mm_movemask_epi8(_mm_cmpeq_epi32(four, zero));
+        const uint32_t good = whole_pair_mask(load(bytes + 4 * i));
         if (good != 0xFFFF)
             return i + leading(good);
     }
     while (i < most && (word_at(bytes, i) & PAIR_ZERO) == 0)
         i++;
     return i;
+}
+
+/* Of four words or more: one "or" over all and one test. The last four overlap those before. */
+static inline bool are_whole_pairs(const uint8_t *bytes, size_t n)
+{
+    __m128i all = load(bytes + 4 * (n - 4));
+    size_t i = 0;
+    for (; i + 16 <= n; i += 16) {
+        const uint8_t *at = bytes + 4 * i;
+        all = either(all, either(either(load(at), load(at + 16)), either(load(at + 32), load(at + 48))));
+    }
+    for (; i + 4 <= n; i += 4)
+        all = either(all, load(bytes + 4 * i));
+    return whole_pair_mask(all) == 0xFFFF;
+}
+
+static inline size_t count_whole_pairs(const uint8_t *bytes, size_t most)
+{
+    return most >= 4 && are_whole_pairs(bytes, most) ? most : count_few_pairs(bytes, most);
 }
 
 /* Four words that begin with this kind and are zero in these bits. */

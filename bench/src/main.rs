@@ -168,45 +168,49 @@ fn check_all(side: &dyn Side, bytes: &[u8], length: usize) {
     }
 }
 
-/// A block by itself, and as many of it as are 16 MB. Reading and copying the same bytes are contenders too.
-fn check_rows(name: &str, events: &[Vec<u32>]) {
-    let block = data::block(events, 4_096);
-    assert_eq!(Library.check(&block), block.len() as u64 / 4, "{name}");
-    same(name, &|side| side.check(&block));
-    agree::damaged(&block, name);
-    for (size, blocks) in [("16 KB", 1), ("16 MB", 16_000_000 / block.len())] {
-        let bytes = block.repeat(blocks);
-        let mut copy = bytes.clone();
-        let measured = measure(SIDES.len() + 2, &mut |contender, times| {
-            for _ in 0..times {
-                match SIDES.get(contender) {
-                    Some(side) => check_all(*side, &bytes, block.len()),
-                    None if contender == SIDES.len() => {
-                        black_box(peers::read(black_box(&bytes)));
-                    }
-                    None => black_box(&mut copy).copy_from_slice(black_box(&bytes)),
+/// Reading and copying the same bytes are contenders too.
+fn check_row(name: &str, block: &[u8], blocks: usize) {
+    let bytes = block.repeat(blocks);
+    let mut copy = bytes.clone();
+    let measured = measure(SIDES.len() + 2, &mut |contender, times| {
+        for _ in 0..times {
+            match SIDES.get(contender) {
+                Some(side) => check_all(*side, &bytes, block.len()),
+                None if contender == SIDES.len() => {
+                    black_box(peers::read(black_box(&bytes)));
                 }
+                None => black_box(&mut copy).copy_from_slice(black_box(&bytes)),
             }
-        });
-        let speed = |seconds: f64| bytes.len() as f64 / 1e9 / seconds;
-        let limits = [4, 5].map(|limit| number(speed(measured.seconds[limit])));
-        row(format!("{name}, {size}"), &measured, &speed, &limits);
-    }
+        }
+    });
+    let speed = |seconds: f64| bytes.len() as f64 / 1e9 / seconds;
+    let limits = [4, 5].map(|limit| number(speed(measured.seconds[limit])));
+    row(name.to_string(), &measured, &speed, &limits);
 }
 
 fn mixed() -> Vec<Vec<u32>> {
     vec![data::event(8, 101), data::event(7, 100), data::event(2, 60)]
 }
 
-fn check_tables() {
-    check_rows("integrals", &[data::integrals(4_000)]);
-    check_rows("windows of 16", &[data::event(1, 16)]);
-    check_rows("windows of 500", &[data::event(1, 500)]);
-    check_rows("mode 7", &[data::event(7, 100)]);
-    check_rows("mode 8", &[data::event(8, 101)]);
-    check_rows("raw, mode 2", &[data::event(2, 60)]);
-    check_rows("mixed", &mixed());
-    check_rows("empty events", &[data::empty_event()]);
+/// Blocks of at most 4,096 words, all accepted; the rivals agree on each of them damaged.
+fn blocks() -> Vec<(&'static str, Vec<u8>)> {
+    let kinds = [
+        ("integrals", vec![data::integrals(4_000)]),
+        ("windows of 16", vec![data::event(1, 16)]),
+        ("windows of 500", vec![data::event(1, 500)]),
+        ("mode 7", vec![data::event(7, 100)]),
+        ("mode 8", vec![data::event(8, 101)]),
+        ("raw, mode 2", vec![data::event(2, 60)]),
+        ("mixed", mixed()),
+        ("empty events", vec![data::empty_event()]),
+    ];
+    let made = kinds.map(|(name, events)| (name, data::block(&events, 4_096)));
+    for (name, block) in &made {
+        assert_eq!(Library.check(block), block.len() as u64 / 4, "{name}");
+        same(name, &|side| side.check(block));
+        agree::damaged(block, name);
+    }
+    made.to_vec()
 }
 
 /// Runs a program on the input, its text read to the end.
@@ -252,19 +256,23 @@ fn main() {
     writing_rows();
     table("Whole events, in recording times", EVENTS, &COLUMNS);
     modes().for_each(|(mode, nw, busy)| event_row(mode, nw, busy));
-    table("Check, GB/s", CHECK, &[&COLUMNS[..], &["read", "memcpy"]].concat());
-    check_tables();
+    let blocks = blocks();
+    let columns = [&COLUMNS[..], &["read", "memcpy"]].concat();
+    table("Check of a block of 16 KB, GB/s", CHECK, &columns);
+    blocks.iter().for_each(|(name, block)| check_row(name, block, 1));
+    table("Check of 16 MB, GB/s", "The same blocks, one behind the other.", &columns);
+    blocks.iter().for_each(|(name, block)| check_row(name, block, 16_000_000 / block.len()));
     table("Lister, MB/s", "A process each time, its text read through a pipe.", &COLUMNS[..3]);
     lister_row(lister, second);
 }
 
 const FINDER: &str = "\
-A rival's cell has its time, then that over the library's, the median of the rounds and in brackets its quarters: above
-1 the library is faster. `searched` is how many samples the search looks at, up to the third pulse or the end.";
+A rival's cell has its time, then that over the library's, the median of the rounds and in brackets its quarters:
+above 1 the library is faster. `searched` is how many samples the search looks at, up to the third pulse or the end.";
 const WRITING: &str = "Sixteen channels are posted before a close. The cells are as above.";
 const EVENTS: &str = "\
-Open event, 16 posts and close, over 4 ns a sample, in which the windows were recorded: below 1 the call keeps up with
-the digitiser. `pulses`: one in every hundred samples. The rivals' second number is the ratio of times, as above.";
+Open event, 16 posts and close, over the 4 ns a sample in which the windows were recorded: below 1 the calls keep up
+with the digitiser. `pulses`: one in every hundred samples. A rival's second number is the ratio of times, as above.";
 const CHECK: &str = "\
-The second number of a cell is the ratio of times, as above. `read` loads the same bytes and `memcpy` copies them. The
-digitiser's 16 samples every 4 ns, two bytes each, are 8.0 GB/s.";
+A rival's second number is the ratio of times, as above. `read` loads the same bytes, 16 at a time, and `memcpy` copies
+them. The digitiser's 16 samples every 4 ns, two bytes each, are 8.0 GB/s. The block of empty events has 3 KB.";

@@ -2,9 +2,13 @@
 
 use std::time::Instant;
 
-const ROUNDS: usize = 15;
+/// So many rounds of short goes, since a machine that does other work too seldom does it in all of them; fewer where a
+/// round takes long.
+const ROUNDS: usize = 41;
+const LEAST_ROUNDS: usize = 7;
+const MOST_SECONDS: f64 = 1.0;
 /// About how long one go of the library is, in seconds.
-const GO: f64 = 0.008;
+const GO: f64 = 0.0015;
 
 /// What was measured of one job, by contender: the library is the first.
 pub struct Measured {
@@ -48,7 +52,11 @@ pub fn measure(contenders: usize, job: Job) -> Measured {
         job(contender, 1);
     }
     let mut rounds = vec![Vec::new(); contenders];
-    for _ in 0..ROUNDS {
+    let start = Instant::now();
+    for done in 0..ROUNDS {
+        if done >= LEAST_ROUNDS && start.elapsed().as_secs_f64() > MOST_SECONDS {
+            break;
+        }
         for (contender, round) in rounds.iter_mut().enumerate() {
             round.push(seconds(job, contender, times) / times as f64);
         }
