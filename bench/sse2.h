@@ -152,11 +152,8 @@ static inline uint32_t whole_pair_mask(__m128i four)
 static inline size_t count_few_pairs(const uint8_t *bytes, size_t most)
 {
     size_t i = 0;
-    for (; i + 4 <= most; i += 4) {
-        const uint32_t good = whole_pair_mask(load(bytes + 4 * i));
-        if (good != 0xFFFF)
-            return i + leading(good);
-    }
+    while (i + 4 <= most && whole_pair_mask(load(bytes + 4 * i)) == 0xFFFF)
+        i += 4;
     while (i < most && (word_at(bytes, i) & PAIR_ZERO) == 0)
         i++;
     return i;

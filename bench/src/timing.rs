@@ -4,9 +4,9 @@ use std::time::Instant;
 
 /// So many rounds of short goes, since a machine that does other work too seldom does it in all of them; fewer where a
 /// round takes long.
-const ROUNDS: usize = 41;
+const ROUNDS: usize = 81;
 const LEAST_ROUNDS: usize = 7;
-const MOST_SECONDS: f64 = 1.0;
+const MOST_SECONDS: f64 = 1.5;
 /// About how long one go of the library is, in seconds.
 const GO: f64 = 0.0015;
 
