@@ -268,11 +268,12 @@ fn main() {
 
 const FINDER: &str = "\
 A rival's cell has its time, then that over the library's, the median of the rounds and in brackets its quarters:
-above 1 the library is faster. `searched` is how many samples the search looks at, up to the third pulse or the end.";
+above 1 the library is faster. `searched` is how many samples the search looks at, up to the third pulse or the end;
+that none is over 8,191 is asked of all. To keep up with 16 channels a call would have NW / 4 ns: 4, 25 and 125.";
 const WRITING: &str = "Sixteen channels are posted before a close. The cells are as above.";
 const EVENTS: &str = "\
 Open event, 16 posts and close, over the 4 ns a sample in which the windows were recorded: below 1 the calls keep up
 with the digitiser. `pulses`: one in every hundred samples. A rival's second number is the ratio of times, as above.";
 const CHECK: &str = "\
-A rival's second number is the ratio of times, as above. `read` loads the same bytes, 16 at a time, and `memcpy` copies
+A rival's second number is the ratio of times, as above. `read` loads the same bytes, 16 at a time, `memcpy` copies
 them. The digitiser's 16 samples every 4 ns, two bytes each, are 8.0 GB/s. The block of empty events has 3 KB.";
