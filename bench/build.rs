@@ -3,6 +3,10 @@
 use std::env;
 use std::process::Command;
 
+/// Aligned, since a short loop is up to twice as slow where it happens to lie across a boundary.
+const FLAGS: [&str; 7] =
+    ["-O3", "-falign-functions=64", "-falign-loops=32", "-Wall", "-Wextra", "-c", "peer.c"];
+
 fn run(program: &str, arguments: &[&str]) {
     let status = Command::new(program).args(arguments).status();
     assert!(status.is_ok_and(|status| status.success()), "{program} {arguments:?}");
@@ -13,7 +17,6 @@ fn main() {
     let compiler = env::var("CC").unwrap_or_else(|_| "gcc".to_string());
     let [plain, sse2, archive] =
         ["plain.o", "sse2.o", "libpeer.a"].map(|name| format!("{folder}/{name}"));
-    const FLAGS: [&str; 5] = ["-O3", "-Wall", "-Wextra", "-c", "peer.c"];
     run(&compiler, &[&FLAGS[..], &["-o", &plain]].concat());
     run(&compiler, &[&FLAGS[..], &["-DSSE2", "-o", &sse2]].concat());
     run("ar", &["crs", &archive, &plain, &sse2]);

@@ -13,7 +13,7 @@ use std::env;
 use std::hint::black_box;
 use std::io::Write;
 use std::process::{Command, Stdio};
-use timing::{measure, Measured};
+use timing::{measure, passing, processor, Measured};
 
 /// The columns, the library first.
 const SIDES: [&dyn Side; 4] = [&Library, &Second, &Plain, &Sse2];
@@ -78,7 +78,7 @@ fn finder_row(nw: usize, busy: bool) {
         (side.find(black_box(&settings), 3, black_box(&window), &mut out), out)
     };
     same(&name, &find);
-    let measured = measure(SIDES.len(), &mut |side, times| {
+    let measured = measure(processor, SIDES.len(), &mut |side, times| {
         for _ in 0..times {
             black_box(find(SIDES[side]));
         }
@@ -93,7 +93,7 @@ fn writing_row(name: &str, lent: &Lent, call: &dyn Fn(&dyn Side, &mut Lent) -> u
         (call(side, &mut lent), lent)
     });
     let mut used = lent.clone();
-    let measured = measure(SIDES.len(), &mut |side, times| {
+    let measured = measure(processor, SIDES.len(), &mut |side, times| {
         for _ in 0..times {
             used.state[..MOVING].copy_from_slice(black_box(&lent.state[..MOVING]));
             assert_eq!(call(SIDES[side], &mut used), 0);
@@ -152,7 +152,7 @@ fn event_row(mode: u64, nw: usize, busy: bool) {
         let mut lent = lent.clone();
         (write_block(side, &window, &mut lent), lent)
     });
-    let measured = measure(SIDES.len(), &mut |side, times| {
+    let measured = measure(processor, SIDES.len(), &mut |side, times| {
         for _ in 0..times {
             black_box(write_block(SIDES[side], &window, &mut lent));
         }
@@ -172,7 +172,7 @@ fn check_all(side: &dyn Side, bytes: &[u8], length: usize) {
 fn check_row(name: &str, block: &[u8], blocks: usize) {
     let bytes = block.repeat(blocks);
     let mut copy = bytes.clone();
-    let measured = measure(SIDES.len() + 2, &mut |contender, times| {
+    let measured = measure(processor, SIDES.len() + 2, &mut |contender, times| {
         for _ in 0..times {
             match SIDES.get(contender) {
                 Some(side) => check_all(*side, &bytes, block.len()),
@@ -230,7 +230,7 @@ fn lister_row(ours: &str, theirs: &str) {
     let programs = [vec![ours.to_string()], vec![theirs.to_string(), "list".to_string()]];
     let bytes = data::block(&mixed(), 16_384);
     assert!(list(&programs[0], &bytes) == list(&programs[1], &bytes), "the listers differ");
-    let measured = measure(programs.len(), &mut |program, times| {
+    let measured = measure(passing, programs.len(), &mut |program, times| {
         for _ in 0..times {
             black_box(list(&programs[program], &bytes));
         }
