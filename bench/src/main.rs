@@ -1,196 +1,279 @@
-//! Times the library and the second program in turn, in one run, and prints ratios: above 1 the library is faster.
+//! Times the library beside the second program, two rivals in C and the machine, taking turns in one run.
+
+mod agree;
+mod data;
+mod peers;
+mod timing;
 
 use comparison::Library;
+use data::{Lent, MOVING};
+use peers::{Plain, Sse2};
 use second::cases::{Second, Side};
-use second::words;
 use std::env;
 use std::hint::black_box;
 use std::io::Write;
 use std::process::{Command, Stdio};
-use std::time::Instant;
+use timing::{measure, passing, processor, Measured};
 
-const ROUNDS: usize = 15;
+/// The columns, the library first.
+const SIDES: [&dyn Side; 4] = [&Library, &Second, &Plain, &Sse2];
 
-const CLOCK: [u32; 2] = [0x9800_0100, 0];
-
-/// Seconds of one go.
-fn seconds(go: &mut dyn FnMut()) -> f64 {
-    let start = Instant::now();
-    go();
-    start.elapsed().as_secs_f64()
-}
-
-/// The medians of both in rounds that take turns, and the spread of the rounds' ratios. A go does so much of each unit.
-fn row(name: &str, units: &[(&str, f64)], ours: &mut dyn FnMut(), theirs: &mut dyn FnMut()) {
-    let mut rounds: Vec<(f64, f64)> =
-        (0..ROUNDS).map(|_| (seconds(ours), seconds(theirs))).collect();
-    let mut ratios: Vec<f64> = rounds.iter().map(|(a, b)| b / a).collect();
-    ratios.sort_by(f64::total_cmp);
-    rounds.sort_by(|x, y| x.0.total_cmp(&y.0));
-    let median = rounds[ROUNDS / 2].0;
-    let speeds: Vec<String> =
-        units.iter().map(|(unit, amount)| format!("{:.1} {unit}", amount / median)).collect();
-    let quarters = (ratios[ROUNDS / 4], ratios[ROUNDS * 3 / 4]);
-    let ratio = ratios[ROUNDS / 2];
-    println!(
-        "| {name} | {} | {ratio:.2} | {:.2} to {:.2} |",
-        speeds.join(", "),
-        quarters.0,
-        quarters.1
-    );
-}
-
-fn settings(mode: u64, nw: usize) -> Vec<u64> {
-    let mut settings = vec![100; 26];
-    settings[..10].copy_from_slice(&[mode, nw as u64, 20, 3, 10, 3, 5, 1, 2, 2]);
-    settings
-}
-
-/// A quiet line, or one with a pulse in every twenty samples.
-fn window(nw: usize, busy: bool) -> Vec<u16> {
-    const PULSE: [u16; 8] = [40, 120, 300, 500, 420, 260, 130, 60];
-    (0..nw)
-        .map(|k| 10 + (k % 3) as u16 + PULSE.get((k + 14) % 20).filter(|_| busy).unwrap_or(&0))
-        .collect()
-}
-
-fn finds(side: &dyn Side, settings: &[u64], window: &[u16], times: usize) {
-    let mut out = [0; 28];
-    for _ in 0..times {
-        black_box(side.find(black_box(settings), 3, black_box(window), &mut out));
+/// Three digits, or all before the point.
+fn number(value: f64) -> String {
+    match value {
+        _ if value < 9.995 => format!("{value:.2}"),
+        _ if value < 99.95 => format!("{value:.1}"),
+        _ => format!("{value:.0}"),
     }
 }
 
-/// Everything up to the close, 16 channels posted: the state, the store and the words.
-fn opened(mode: u64, nw: usize) -> (Vec<u64>, Vec<u16>, Vec<u32>) {
-    let (mut state, mut store, mut words) = (vec![0; 34], vec![0; 16 * nw], vec![0; 16_384]);
-    Second.set_up(&settings(mode, nw), &mut state);
-    Second.open_block(&mut state, &mut words, 1, 255);
-    Second.open_event(&mut state, 9, 256);
-    for channel in 0..16 {
-        Second.post(&mut state, &mut store, channel, &window(nw, true));
+/// The cells of the sides: what `shown` makes of a call's seconds; for rivals the ratio too, and its quarters.
+fn cells(measured: &Measured, shown: &dyn Fn(f64) -> f64) -> Vec<String> {
+    let time = |side: usize| number(shown(measured.seconds[side]));
+    let rival = |side: usize| {
+        let [low, ratio, high] = measured.ratios[side].map(number);
+        format!("{}, {ratio} ({low}-{high})", time(side))
+    };
+    [time(0)].into_iter().chain((1..SIDES.len()).map(rival)).collect()
+}
+
+fn line(cells: &[String]) {
+    println!("| {} |", cells.join(" | "));
+}
+
+/// A title, the text below it and the head of its table.
+fn table(title: &str, text: &str, columns: &[&str]) {
+    println!("\n## {title}\n\n{text}\n");
+    line(&columns.iter().map(|column| column.to_string()).collect::<Vec<_>>());
+    println!("|{}", "---|".repeat(columns.len()));
+}
+
+fn row(name: String, measured: &Measured, shown: &dyn Fn(f64) -> f64, more: &[String]) {
+    line(&[&[name], &cells(measured, shown)[..], more].concat());
+}
+
+fn nanoseconds(seconds: f64) -> f64 {
+    seconds * 1e9
+}
+
+fn loudness(busy: bool) -> &'static str {
+    if busy {
+        "busy"
+    } else {
+        "quiet"
     }
-    (state, store, words)
 }
 
-fn closes(side: &dyn Side, state: &[u64], store: &[u16], words: &mut [u32], times: usize) {
-    for _ in 0..times {
-        let mut state = state.to_vec();
-        black_box(side.close(&mut state, black_box(store), words));
-    }
-}
-
-fn checks(side: &dyn Side, bytes: &[u8]) {
-    black_box(side.check(black_box(bytes)));
-}
-
-/// Runs a program on the input a few times, its text read to the end.
-fn lists(program: &[String], bytes: &[u8]) {
-    for _ in 0..20 {
-        let mut command = Command::new(&program[0]);
-        command.args(&program[1..]).stdin(Stdio::piped()).stdout(Stdio::piped());
-        let mut child = command.spawn().expect("the lister starts");
-        let mut input = child.stdin.take().expect("a pipe");
-        let bytes = bytes.to_vec();
-        let writer = std::thread::spawn(move || input.write_all(&bytes));
-        black_box(child.wait_with_output().expect("the lister ends"));
-        let _ = writer.join();
-    }
-}
-
-/// A block of so many words at most, whose one event repeats these.
-fn block(items: &[u32], most: usize) -> Vec<u8> {
-    let mut words = vec![words::block_header(5, 1, 1), words::event_header(5, 9)];
-    words.extend(CLOCK);
-    while words.len() + items.len() < most {
-        words.extend(items);
-    }
-    words.push(words::trailer(5, words.len() as u32 + 1));
-    words.iter().flat_map(|word| word.to_be_bytes()).collect()
-}
-
-/// The words that a close in this mode writes.
-fn event_words(mode: u64, nw: usize) -> Vec<u32> {
-    let (mut state, store, mut buffer) = opened(mode, nw);
-    let before = state[7] as usize;
-    Second.close(&mut state, &store, &mut buffer);
-    buffer[before..state[7] as usize].to_vec()
-}
-
-/// The same behind the event's header and time words.
-fn channel_words(mode: u64, nw: usize) -> Vec<u32> {
-    event_words(mode, nw).split_off(1 + CLOCK.len())
+/// All sides leave and answer the same; what they do is what is timed.
+fn same<T: PartialEq>(name: &str, of: &dyn Fn(&dyn Side) -> T) {
+    let wanted = of(&Library);
+    SIDES.iter().for_each(|side| assert!(of(*side) == wanted, "{name}: the sides differ"));
 }
 
 fn finder_row(nw: usize, busy: bool) {
-    let (settings, window) = (settings(7, nw), window(nw, busy));
-    let times = 4_000_000 / nw;
-    row(
-        &format!("finder, NW {nw}, {}", if busy { "busy" } else { "quiet" }),
-        &[("Msamples/s", (times * nw) as f64 / 1e6)],
-        &mut || finds(&Library, &settings, &window, times),
-        &mut || finds(&Second, &settings, &window, times),
-    );
+    let (settings, window) = (data::settings(7, nw), data::window(nw, busy));
+    let name = format!("NW {nw}, {}", loudness(busy));
+    let find = |side: &dyn Side| {
+        let mut out = [0; 28];
+        (side.find(black_box(&settings), 3, black_box(&window), &mut out), out)
+    };
+    same(&name, &find);
+    let measured = measure(processor, SIDES.len(), &mut |side, times| {
+        for _ in 0..times {
+            black_box(find(SIDES[side]));
+        }
+    });
+    row(name, &measured, &nanoseconds, &[data::searched(&settings, &window).to_string()]);
 }
 
-fn close_row(mode: u64) {
-    const TIMES: usize = 2_000;
-    let (state, store, mut words) = opened(mode, 100);
-    let mut other = words.clone();
-    let written = event_words(mode, 100).len();
-    row(
-        &format!("close, mode {mode}, 16 channels of 100"),
-        &[("kevents/s", TIMES as f64 / 1e3), ("Mwords/s", (TIMES * written) as f64 / 1e6)],
-        &mut || closes(&Library, &state, &store, &mut words, TIMES),
-        &mut || closes(&Second, &state, &store, &mut other, TIMES),
-    );
+/// A call of writing on what is lent: each time the moving part of the state is put back to where it was.
+fn writing_row(name: &str, lent: &Lent, call: &dyn Fn(&dyn Side, &mut Lent) -> u32) {
+    same(name, &|side| {
+        let mut lent = lent.clone();
+        (call(side, &mut lent), lent)
+    });
+    let mut used = lent.clone();
+    let measured = measure(processor, SIDES.len(), &mut |side, times| {
+        for _ in 0..times {
+            used.state[..MOVING].copy_from_slice(black_box(&lent.state[..MOVING]));
+            assert_eq!(call(SIDES[side], &mut used), 0);
+        }
+    });
+    row(name.to_string(), &measured, &nanoseconds, &[]);
 }
 
-/// The check of a block of 16 MB, and as the limit a copy of its bytes.
-fn check_rows(name: &str, items: &[u32]) {
-    let bytes = block(items, 4_000_000);
-    assert_eq!(Library.check(&bytes), bytes.len() as u64 / 4, "{name}");
-    let megabytes = bytes.len() as f64 / 1e6;
-    row(
-        &format!("check, {name}"),
-        &[("MB/s", megabytes)],
-        &mut || checks(&Library, &bytes),
-        &mut || checks(&Second, &bytes),
-    );
+fn writing_rows() {
+    writing_row("open event", &data::in_block(7, 100), &|side, lent| {
+        side.open_event(&mut lent.state, 9, 256)
+    });
+    for nw in [16, 100, 500] {
+        let window = data::window(nw, true);
+        writing_row(&format!("post, NW {nw}"), &data::in_event(7, nw), &|side, lent| {
+            side.post(&mut lent.state, &mut lent.store, 3, black_box(&window))
+        });
+    }
+    for (mode, nw, busy) in modes() {
+        let name = format!("close, mode {mode}, NW {nw}, {}", loudness(busy));
+        writing_row(&name, &data::posted(mode, nw, busy), &|side, lent| {
+            side.close(&mut lent.state, &lent.store, &mut lent.words)
+        });
+    }
+}
+
+/// Every mode, with short and long windows, quiet and busy.
+fn modes() -> impl Iterator<Item = (u64, usize, bool)> {
+    let windows = [(100, false), (100, true), (500, false), (500, true)];
+    [1, 2, 3, 4, 7, 8].into_iter().flat_map(move |mode| windows.map(|(nw, busy)| (mode, nw, busy)))
+}
+
+const EVENTS_OF_BLOCK: u32 = 200;
+
+/// A block of events, all of the same sixteen windows; answers its length.
+fn write_block(side: &dyn Side, window: &[u16], lent: &mut Lent) -> u64 {
+    let Lent { state, store, words } = lent;
+    let mut refusals = side.open_block(state, words, 1, EVENTS_OF_BLOCK);
+    for event in 0..EVENTS_OF_BLOCK {
+        refusals |= side.open_event(state, event, event.into());
+        for channel in 0..16 {
+            refusals |= side.post(state, store, channel, black_box(window));
+        }
+        refusals |= side.close(state, store, words);
+    }
+    assert_eq!(refusals, 0);
+    side.finish(state, words)
+}
+
+fn event_row(mode: u64, nw: usize, busy: bool) {
+    let name = format!("mode {mode}, NW {nw}, {}", if busy { "pulses" } else { "quiet" });
+    let window = data::sparse_window(nw, busy);
+    let mut lent = Lent { words: vec![0; 2_500_000], ..data::in_block(mode, nw) };
+    assert_eq!(Second.set_up(&data::settings(mode, nw), &mut lent.state), 0);
+    same(&name, &|side| {
+        let mut lent = lent.clone();
+        (write_block(side, &window, &mut lent), lent)
+    });
+    let measured = measure(processor, SIDES.len(), &mut |side, times| {
+        for _ in 0..times {
+            black_box(write_block(SIDES[side], &window, &mut lent));
+        }
+    });
+    let recorded = 4e-9 * nw as f64 * f64::from(EVENTS_OF_BLOCK);
+    row(name, &measured, &|seconds| seconds / recorded, &[]);
+}
+
+/// Checks block after block to the end of the bytes, each of them this long.
+fn check_all(side: &dyn Side, bytes: &[u8], length: usize) {
+    for block in bytes.chunks(length) {
+        black_box(side.check(black_box(block)));
+    }
+}
+
+/// Reading and copying the same bytes are contenders too.
+fn check_row(name: &str, block: &[u8], blocks: usize) {
+    let bytes = block.repeat(blocks);
     let mut copy = bytes.clone();
-    let mut rounds: Vec<f64> = (0..ROUNDS)
-        .map(|_| seconds(&mut || black_box(&mut copy).copy_from_slice(black_box(&bytes))))
-        .collect();
-    rounds.sort_by(f64::total_cmp);
-    println!("| memcpy of the same | {:.1} MB/s | | |", megabytes / rounds[ROUNDS / 2]);
+    let measured = measure(processor, SIDES.len() + 2, &mut |contender, times| {
+        for _ in 0..times {
+            match SIDES.get(contender) {
+                Some(side) => check_all(*side, &bytes, block.len()),
+                None if contender == SIDES.len() => {
+                    black_box(peers::read(black_box(&bytes)));
+                }
+                None => black_box(&mut copy).copy_from_slice(black_box(&bytes)),
+            }
+        }
+    });
+    let speed = |seconds: f64| bytes.len() as f64 / 1e9 / seconds;
+    let limits = [4, 5].map(|limit| number(speed(measured.seconds[limit])));
+    row(name.to_string(), &measured, &speed, &limits);
 }
 
-fn lister_row(items: &[u32]) {
-    let program =
-        |of: &str| env::args().nth(1).map(|folder| format!("{folder}/{of}")).unwrap_or_default();
-    let ours = [program("bin/lister")];
-    let theirs = [program("second/release/second"), "list".to_string()];
-    let bytes = block(items, 16_384);
-    row(
-        "lister, a program on 64 KB",
-        &[("MB/s", 20.0 * bytes.len() as f64 / 1e6)],
-        &mut || lists(&ours, &bytes),
-        &mut || lists(&theirs, &bytes),
-    );
+fn mixed() -> Vec<Vec<u32>> {
+    vec![data::event(8, 101), data::event(7, 100), data::event(2, 60)]
+}
+
+/// Blocks of at most 4,096 words, all accepted; the rivals agree on each of them damaged.
+fn blocks() -> Vec<(&'static str, Vec<u8>)> {
+    let kinds = [
+        ("integrals", vec![data::integrals(4_000)]),
+        ("windows of 16", vec![data::event(1, 16)]),
+        ("windows of 500", vec![data::event(1, 500)]),
+        ("mode 7", vec![data::event(7, 100)]),
+        ("mode 8", vec![data::event(8, 101)]),
+        ("raw, mode 2", vec![data::event(2, 60)]),
+        ("mixed", mixed()),
+        ("empty events", vec![data::empty_event()]),
+    ];
+    let made = kinds.map(|(name, events)| (name, data::block(&events, 4_096)));
+    for (name, block) in &made {
+        assert_eq!(Library.check(block), block.len() as u64 / 4, "{name}");
+        same(name, &|side| side.check(block));
+        agree::damaged(block, name);
+    }
+    made.to_vec()
+}
+
+/// Runs a program on the input, its text read to the end.
+fn list(program: &[String], bytes: &[u8]) -> Vec<u8> {
+    let mut command = Command::new(&program[0]);
+    command.args(&program[1..]).stdin(Stdio::piped()).stdout(Stdio::piped());
+    let mut child = command.spawn().expect("the lister starts");
+    let mut input = child.stdin.take().expect("a pipe");
+    let bytes = bytes.to_vec();
+    let writer = std::thread::spawn(move || input.write_all(&bytes));
+    let output = child.wait_with_output().expect("the lister ends");
+    let _ = writer.join();
+    output.stdout
+}
+
+fn lister_row(ours: &str, theirs: &str) {
+    let programs = [vec![ours.to_string()], vec![theirs.to_string(), "list".to_string()]];
+    let bytes = data::block(&mixed(), 16_384);
+    assert!(list(&programs[0], &bytes) == list(&programs[1], &bytes), "the listers differ");
+    let measured = measure(passing, programs.len(), &mut |program, times| {
+        for _ in 0..times {
+            black_box(list(&programs[program], &bytes));
+        }
+    });
+    let [low, ratio, high] = measured.ratios[1].map(number);
+    let [ours, theirs] =
+        [0, 1].map(|side| number(bytes.len() as f64 / 1e6 / measured.seconds[side]));
+    line(&["a program on 64 KB".to_string(), ours, format!("{theirs}, {ratio} ({low}-{high})")]);
 }
 
 fn main() {
-    println!("| what | library | ratio | quarters of the ratio |\n|---|---|---|---|");
+    let [_, lister, second] = &env::args().collect::<Vec<_>>()[..] else {
+        panic!("usage: bench LISTER SECOND")
+    };
+    println!("The rivals in C answered as the library on {}.", agree::agree());
+    const COLUMNS: [&str; 5] = ["job", "library", "second", "plain C", "SSE2"];
+    table("Finder, ns a call", FINDER, &[&COLUMNS[..], &["searched"]].concat());
     for nw in [16, 100, 500] {
         finder_row(nw, false);
         finder_row(nw, true);
     }
-    for mode in [1, 2, 3, 4, 7, 8] {
-        close_row(mode);
-    }
-    let mixed = [channel_words(8, 101), channel_words(7, 100), channel_words(2, 60)].concat();
-    check_rows("integrals", &[0xB980_02BC]);
-    check_rows("windows", &channel_words(1, 500));
-    check_rows("mixed", &mixed);
-    lister_row(&mixed);
+    table("Calls of writing, ns a call", WRITING, &COLUMNS);
+    writing_rows();
+    table("Whole events, in recording times", EVENTS, &COLUMNS);
+    modes().for_each(|(mode, nw, busy)| event_row(mode, nw, busy));
+    let blocks = blocks();
+    let columns = [&COLUMNS[..], &["read", "memcpy"]].concat();
+    table("Check of a block of 16 KB, GB/s", CHECK, &columns);
+    blocks.iter().for_each(|(name, block)| check_row(name, block, 1));
+    table("Check of 16 MB, GB/s", "The same blocks, one behind the other.", &columns);
+    blocks.iter().for_each(|(name, block)| check_row(name, block, 16_000_000 / block.len()));
+    table("Lister, MB/s", "A process each time, its text read through a pipe.", &COLUMNS[..3]);
+    lister_row(lister, second);
 }
+
+const FINDER: &str = "\
+A rival's cell has its time, then that over the library's, the median of the rounds and in brackets its quarters:
+above 1 the library is faster. `searched` is how many samples the search looks at, up to the third pulse or the end;
+that none is over 8,191 is asked of all. To keep up with 16 channels a call would have NW / 4 ns: 4, 25 and 125.";
+const WRITING: &str = "Sixteen channels are posted before a close. The cells are as above.";
+const EVENTS: &str = "\
+Open event, 16 posts and close, over the 4 ns a sample in which the windows were recorded: below 1 the calls keep up
+with the digitiser. `pulses`: one in every hundred samples. A rival's second number is the ratio of times, as above.";
+const CHECK: &str = "\
+A rival's second number is the ratio of times, as above. `read` loads the same bytes, 16 at a time, `memcpy` copies
+them. The digitiser's 16 samples every 4 ns, two bytes each, are 8.0 GB/s. The block of empty events has 3 KB.";
