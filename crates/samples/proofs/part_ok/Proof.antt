@@ -1,0 +1,43 @@
+-- `samples::part_ok` meets its contract. The invariant: what was tested and what is left are the whole. Assumes nothing.
+use Prim.Native.Nat.{_-_}
+use mathlib.Core.Path.{_≡_, refl}
+use mathlib.Core.Bool.{_&&_}
+use borrow.Author.Needs.{needs}
+use lib.ListN.{length, drop}
+use Rattle.ground.specs.Tests.{allLe}
+use Rattle.samples.specs.Sample.{mostSample, samplesOk}
+use Rattle.ground.specs.TestsLaws.{tested-turn, tested-end}
+use Rattle.samples.proofs.part_ok.Statement.{statement}
+use Rattle.samples.proofs.part_ok.Tie as tie
+
+abbrev Inv-loop : tie.InvT-loop
+Inv-loop part good₀ i₀ good i = good && allLe mostSample (drop i part) ≡ allLe mostSample part
+
+abbrev μ-loop : tie.MeasureT-loop
+μ-loop part good₀ i₀ good i = length part - i
+
+loop-holds : tie.Need-loop-holds Inv-loop μ-loop
+loop-holds c = refl
+
+loop-again : tie.Need-loop-again Inv-loop μ-loop
+loop-again c =
+    let head = c .before .before .loop in
+    tested-turn _ _ (head .good) (head .i) (head .inv) (c .before .loop-test .taken)
+
+returns : tie.Need-returns Inv-loop μ-loop
+unfolding samplesOk
+returns c = tested-end _ _ _ _ (c .before .loop .inv) (c .loop-test .left)
+
+pub part-ok-spec : {M : Type 1} → statement M
+part-ok-spec =
+    tie.close
+    (tie.spec
+    Inv-loop
+    μ-loop
+    loop-holds
+    (λ c. search needs)
+    (λ c. search needs)
+    (λ c. search needs)
+    (λ c. search needs)
+    loop-again
+    returns)
