@@ -39,14 +39,22 @@ struct Events {
 pub fn word_at(bytes: &[u8], k: usize) -> u32
     ensures { λ r. ⌜ r ≡ getD (wordsOfBytes (now (bytes .entry))) k 0 ⌝ }
 {
-    if bytes.len() / 4 <= k {
-        return 0;
+    if k < bytes.len() / 4 {
+        joined_at(bytes, k)
+    } else {
+        0
     }
+}
+
+fn joined_at(bytes: &[u8], k: usize) -> u32
+    requires { ⌜ 4 * k + 4 ≤ length (now bytes) ⌝ }
+    ensures { λ r. ⌜ r ≡ getD (wordsOfBytes (now (bytes .entry))) k 0 ⌝ }
+{
     let i = 4 * k;
     fields::of_bytes(bytes[i], bytes[i + 1], bytes[i + 2], bytes[i + 3])
 }
 
-// Its bytes joined lowest first, as the machine joins them: one load, and nothing is turned round.
+// The bytes joined lowest first, as the machine joins them: one load, and nothing is turned round.
 fn turned_at(bytes: &[u8], k: usize) -> u32
     requires { ⌜ 4 * k + 4 ≤ length (now bytes) ⌝ }
     ensures { λ r. ⌜ r ≡ turnedAt (now (bytes .entry)) k ⌝ }
@@ -66,7 +74,7 @@ fn item_end(bytes: &[u8], k: usize, end: usize) -> usize
     requires { ⌜ (k < end) × (4 * end ≤ length (now bytes)) ⌝ }
     ensures { λ r. ⌜ (r ≤ end) × Passed (wordsOfBytes (now (bytes .entry))) k r ⌝ }
 {
-    let word = word_at(bytes, k);
+    let word = joined_at(bytes, k);
     if sets::is_window(word) {
         return sets::window_end(bytes, k, end, fields::take(word, 0, 12) as usize);
     }
@@ -112,9 +120,9 @@ fn head_at(bytes: &[u8], k: usize, end: usize, slot: u32) -> bool
     }
     is_head(
         slot,
-        word_at(bytes, k),
-        word_at(bytes, k + 1),
-        word_at(bytes, k + 2),
+        joined_at(bytes, k),
+        joined_at(bytes, k + 1),
+        joined_at(bytes, k + 2),
     )
 }
 

@@ -60,11 +60,11 @@ pub(crate) fn plain_end(bytes: &[u8], from: usize, end: usize) -> usize
 
 // Behind a pair of one sample, if one stands here.
 pub(crate) fn single_end(bytes: &[u8], k: usize, end: usize) -> usize
-    requires { ⌜ k ≤ end ⌝ }
+    requires { ⌜ (k ≤ end) × (4 * end ≤ length (now bytes)) ⌝ }
     ensures { λ r. ⌜ ((r ≤ end) × (r ≤ k + 1)) × All single (wordsOfBytes (now (bytes .entry))) k r ⌝ }
 {
     if k < end {
-        let word = crate::word_at(bytes, k);
+        let word = crate::joined_at(bytes, k);
         if (fields::take(word, 29, 3) == 0) & (fields::take(word, 0, 16) == 8192) {
             return k + 1;
         }

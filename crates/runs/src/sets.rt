@@ -56,7 +56,7 @@ pub(crate) fn raw_end(bytes: &[u8], k: usize, end: usize) -> usize
     if next == end {
         return k;
     }
-    if fields::is_continuation(crate::word_at(bytes, next)) {
+    if fields::is_continuation(crate::joined_at(bytes, next)) {
         k
     } else {
         next

@@ -11,7 +11,7 @@ returns c h = absurd (false≢true h)
 
 returns-2 : tie.Need-returns-2
 returns-2 c h =
-    (omega arith, rw (← c .before .before .before .word-at .ensures, ← c .before .before .word-at2 .ensures, ← c .before .word-at3 .ensures) (sym (c .is-head .ensures) ∙ h))
+    (omega arith, rw (← c .before .before .before .joined-at .ensures, ← c .before .before .joined-at2 .ensures, ← c .before .joined-at3 .ensures) (sym (c .is-head .ensures) ∙ h))
 
 pub head-at-spec : {M : Type 1} → statement M
 head-at-spec = tie.close (tie.spec (λ c. search needs) returns (λ c κs. search needs) (λ c. search needs) (λ c κs. search needs) (λ c. search needs) (λ c κs. search needs) (λ c κs. search needs) returns-2)

@@ -10,12 +10,12 @@ use Rattle.runs.proofs.item_end.Tie as tie
 
 window-end-requires : tie.Need-window-end-requires
 window-end-requires c κs =
-    let word = c .before .before .before .word-at .ensures in
+    let word = c .before .before .before .joined-at .ensures in
     (c .before .before .before .before .before .pre, (rw (← word) (sym (c .before .before .is-window .ensures) ∙ c .before .if1 .taken), c .take .ensures ∙ ap (read 11 0) word))
 
 raw-end-requires : tie.Need-raw-end-requires
 raw-end-requires c κs =
-    (c .before .before .before .before .before .before .pre, rw (← c .before .before .before .before .word-at .ensures) (sym (c .before .is-raw .ensures) ∙ c .if2 .taken))
+    (c .before .before .before .before .before .before .pre, rw (← c .before .before .before .before .joined-at .ensures) (sym (c .before .is-raw .ensures) ∙ c .if2 .taken))
 
 returns-3 : tie.Need-returns-3
 returns-3 c =

@@ -23,7 +23,7 @@ returns-4 c =
       omega arith,
       raw-run (start .pre .1) (c .before .before .before .before .before .before .plain-end .ensures .1) (single .1) (single .0 .1)
           (omega arith) (omega arith) (omega (arith, words-count (start .args .bytes .now)))
-          (rw (← c .before .before .word-at .ensures) (sym (c .before .is-continuation .ensures) ∙ c .if3 .left)),
+          (rw (← c .before .before .joined-at .ensures) (sym (c .before .is-continuation .ensures) ∙ c .if3 .left)),
     )
 
 pub raw-end-spec : {M : Type 1} → statement M
