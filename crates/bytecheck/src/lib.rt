@@ -1,9 +1,7 @@
 // The check of a block of bytes, big-endian: a refusal and its place, or the words read, in one number.
 ghost use mathlib.Core.Path.{_≡_};
-ghost use Prim.Native.Nat.{_+_, _*_, _^_, _≤_};
-ghost use lib.ListN.{length};
+ghost use Prim.Native.Nat.{_+_, _*_, _^_};
 ghost use Rattle.bytecheck.specs.Check.{checkNumber};
-ghost use Rattle.bytecheck.specs.Inner.{wordAt};
 use reader::Step;
 use refusals::Refusal;
 use scan::Scan;
@@ -15,15 +13,7 @@ fn numbered(refusal: u32, place: u32) -> u64
     (refusal as u64) * 4294967296 + (place as u64)
 }
 
-// The word of the four bytes from a place on.
-fn word_at(bytes: &[u8], at: usize) -> u32
-    requires { ⌜ at + 4 ≤ length (now bytes) ⌝ }
-    ensures { λ r. ⌜ r ≡ wordAt (now (bytes .entry)) at ⌝ }
-{
-    fields::of_bytes(bytes[at], bytes[at + 1], bytes[at + 2], bytes[at + 3])
-}
-
-// Walks the bytes once, and makes no record.
+// Walks the bytes once, and makes no record: one word by the reader's step, and the items behind it many at a time.
 pub fn check_bytes(bytes: &[u8]) -> u64
     ensures { λ r. ⌜ r ≡ checkNumber (now (bytes .entry)) ⌝ }
 {
@@ -31,13 +21,14 @@ pub fn check_bytes(bytes: &[u8]) -> u64
         return numbered(refusals::number(Refusal::Bytes), 0);
     }
     let mut scan = Scan::start();
-    let mut at: usize = 0;
-    while at < bytes.len() {
-        let step = reader::step_at(scan, word_at(bytes, at));
+    let mut k: usize = 0;
+    while k < bytes.len() / 4 {
+        let step = reader::step_at(scan, runs::word_at(bytes, k));
         match step {
             Step::Went(_, after) => {
-                scan = after;
-                at += 4;
+                let place = runs::past_items(after, bytes, k + 1);
+                scan = place.scan;
+                k = place.next;
             }
             Step::Refused(refusal, place) => {
                 return numbered(refusal, place);

@@ -1,7 +1,6 @@
 -- `bytecheck::check_bytes` meets its contract.
-use Prim.Native.Nat.{ℕ, _+_, _*_, _^_, _≤_, _%_, _-_}
-use mathlib.Core.Path.{refl, sym, ap, _∙_, _≡_}
-use mathlib.Core.List.{List}
+use Prim.Native.Nat.{ℕ, _+_, _*_, _/_, _^_, _≤_, _%_, _-_}
+use mathlib.Core.Path.{sym, ap, _∙_, _≡_}
 use native.Mathlib.Omega.{arith}
 use borrow.Author.Tests.{ne-eqb}
 use borrow.Author.Needs.{needs}
@@ -11,6 +10,7 @@ use Rattle.scan.specs.After.{startOf}
 use Rattle.reader.specs.RunLaws.{end-by}
 use Rattle.scan.specs.declared.Scan.{Scan}
 use Rattle.reader.specs.declared.Step.{Step}
+use Rattle.runs.specs.WordsLaws.{words-count}
 use Rattle.bytecheck.specs.CheckLaws.{run-at, out-number, checked}
 use Rattle.fields.specs.Bytes.{wordsOfBytes}
 use Rattle.bytecheck.specs.Check.{checkNumber}
@@ -18,21 +18,21 @@ use Rattle.bytecheck.proofs.check_bytes.Statement.{statement}
 use Rattle.bytecheck.proofs.check_bytes.Tie as tie
 
 abbrev Inv-loop : tie.InvT-loop
-Inv-loop bytes scan₀ at₀ scan at = ((at ≤ length bytes) × (at % 4 ≡ 0)) × (checkFrom startOf (wordsOfBytes bytes) ≡ checkFrom scan (wordsOfBytes (drop at bytes)))
+Inv-loop bytes scan₀ k₀ scan k = (4 * k ≤ length bytes) × (checkFrom startOf (wordsOfBytes bytes) ≡ checkFrom scan (drop k (wordsOfBytes bytes)))
 
 abbrev μ-loop : tie.MeasureT-loop
-μ-loop bytes scan₀ at₀ scan at = length bytes - at
+μ-loop bytes scan₀ k₀ scan k = length bytes / 4 - k
 
 -- the run at the word that was read
 stepped : (c : tie.After-step-at Inv-loop μ-loop) {t : Step} → c .step-at .result ≡ t →
     let l = c .before .before .before .loop in
     let bytes = c .before .before .before .before .before .before .before .args .bytes .now in
-    checkFrom startOf (wordsOfBytes bytes) ≡ onStep t (l .scan .place) (λ u. checkFrom u (wordsOfBytes (drop (l .at + 4) bytes)))
+    checkFrom startOf (wordsOfBytes bytes) ≡ onStep t (l .scan .place) (λ u. checkFrom u (drop (l .k + 1) (wordsOfBytes bytes)))
 stepped c e =
     let l = c .before .before .before .loop in
     let bytes = c .before .before .before .before .before .before .before .args .bytes .now in
     l .inv .1
-    ∙ run-at bytes (l .at) (l .scan) (omega arith) (c .step-at .ensures .answer ∙ ap (stepAt (l .scan)) (c .before .word-at .ensures)) e
+    ∙ run-at (wordsOfBytes bytes) (l .k) (l .scan) (omega (arith, words-count bytes)) (c .step-at .ensures .answer ∙ ap (stepAt (l .scan)) (c .before .word-at .ensures)) e
 
 -- the bytes are whole words
 whole : (c : tie.After-step-at Inv-loop μ-loop) → length (c .before .before .before .before .before .before .before .args .bytes .now) % 4 ≡ 0
@@ -43,10 +43,16 @@ unfolding checkNumber
 returns c = rw (ne-eqb _ _ (c .before .before .if1 .taken)) (c .numbered .ensures ∙ ap (λ (n : ℕ). n * 2 ^ 32 + 0) (c .before .number .ensures))
 
 loop-holds : tie.Need-loop-holds Inv-loop μ-loop
-loop-holds c = ((omega arith, refl), ap (λ (s : Scan). checkFrom s (wordsOfBytes (c .before .before .before .args .bytes .now))) (sym (c .start .ensures)))
+loop-holds c = (omega arith, ap (λ (s : Scan). checkFrom s (wordsOfBytes (c .before .before .before .args .bytes .now))) (sym (c .start .ensures)))
+
+-- past the word, and past the items behind it
+loop-less : tie.Need-loop-less Inv-loop μ-loop
+loop-less c = omega (arith, c .before .past-items .ensures .ahead)
 
 loop-again : tie.Need-loop-again Inv-loop μ-loop
-loop-again c = ((omega arith, omega arith), stepped (c .before .before .before) (c .before .step .given .1))
+loop-again c =
+    let past = c .before .past-items .ensures in
+    (past .within (omega arith), stepped (c .before .before .before .before .before) (c .before .before .before .step .given .1) ∙ past .same)
 
 returns-2 : tie.Need-returns-2 Inv-loop μ-loop
 returns-2 c = c .numbered2 .ensures ∙ checked _ (whole (c .before .before .before .before)) (stepped (c .before .before .before .before) (c .before .before .step2 .given .1))
@@ -62,34 +68,9 @@ returns-4 c =
     c .numbered4 .ensures
     ∙ ap (λ (n : ℕ). n * 2 ^ 32 + l .scan .place) (c .before .at-end .ensures)
     ∙ out-number (endNumber (l .scan)) (l .scan .place)
-    ∙ checked bytes (c .before .before .before .before .before .if1 .left) (l .inv .1 ∙ ap (λ (x : List ℕ). checkFrom (l .scan) (wordsOfBytes x)) (drop-of-length-le bytes {i = l .at} (omega arith)) ∙ end-by (l .scan))
-
-word-at-requires : tie.Need-word-at-requires Inv-loop μ-loop
-word-at-requires c κs = omega arith
+    ∙ checked bytes (c .before .before .before .before .before .if1 .left) (l .inv .1 ∙ ap (checkFrom (l .scan)) (drop-of-length-le (wordsOfBytes bytes) {i = l .k} (omega (arith, words-count bytes))) ∙ end-by (l .scan))
 
 pub check-bytes-spec : {M : Type 1} → statement M
 check-bytes-spec =
     tie.close
-    (tie.spec
-    Inv-loop
-    μ-loop
-    (λ c κs. search needs)
-    (λ c κs. search needs)
-    returns
-    (λ c κs. search needs)
-    loop-holds
-    word-at-requires
-    (λ c κs. search needs)
-    (λ c. search needs)
-    (λ c. search needs)
-    (λ c. search needs)
-    loop-again
-    (λ c. search needs)
-    (λ c κs. search needs)
-    returns-2
-    (λ c. search needs)
-    (λ c κs. search needs)
-    returns-3
-    (λ c κs. search needs)
-    (λ c κs. search needs)
-    returns-4)
+    (tie.spec Inv-loop μ-loop (λ c κs. search needs) (λ c κs. search needs) returns (λ c κs. search needs) loop-holds (λ c κs. search needs) (λ c κs. search needs) (λ c. search needs) (λ c. search needs) (λ c κs. search needs) loop-less loop-again (λ c. search needs) (λ c κs. search needs) returns-2 (λ c. search needs) (λ c κs. search needs) returns-3 (λ c κs. search needs) (λ c κs. search needs) returns-4)

@@ -1,0 +1,5 @@
+pub mod Runs
+pub mod WordsLaws
+pub mod BitsLaws
+pub mod StepsLaws
+pub mod RunsLaws

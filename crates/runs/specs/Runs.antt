@@ -1,0 +1,80 @@
+-- What the check passes many words at a time: measures, windows, data sets, and the heads of events. Only what is passed is said; whatever is not known is left to the
+-- step of one word. Assumes nothing.
+use Prim.Native.Nat.{ℕ, _+_, _-_, _*_, _%_, _≤_, _<_}
+use mathlib.Core.Path.{_≡_}
+use mathlib.Core.Bool.{Bool, true, _&&_, _||_}
+use mathlib.Core.List.{List, [], _∷_}
+use lib.Dec.{eqb}
+use lib.ListN.{length, getD, drop}
+use Rattle.ground.specs.Tests.{allOf}
+use Rattle.fields.specs.Word.{read}
+use Rattle.fields.specs.Tag.{isDefining, isContinuation}
+use Rattle.fields.specs.Bytes.{wordOfBytes, wordsOfBytes}
+use Rattle.measures.specs.Words.{timeFixed}
+use Rattle.framing.specs.Words.{triggerTimeHighFixed}
+use Rattle.raw.specs.Words.{windowOf, windowFixed, windowWithin, pulseRawFixed}
+use Rattle.scan.specs.declared.Stage.{Stage}
+use Rattle.scan.specs.declared.Stage.the-variants as P
+use Rattle.scan.specs.declared.Scan.{Scan}
+use Rattle.reader.specs.Reader.{checkFrom}
+
+-- the word of number k, its bytes joined lowest first
+abbrev pub turnedAt : List ℕ → ℕ → ℕ
+turnedAt bytes k = wordOfBytes (getD bytes (4 * k + 3) 0) (getD bytes (4 * k + 2) 0) (getD bytes (4 * k + 1) 0) (getD bytes (4 * k) 0)
+
+-- ---- words that may be passed
+
+-- a pair of two samples: bit 31, the bits shown zero and both flags are clear
+unfoldable pub plain : ℕ → Bool
+plain word = eqb (read 31 29 word) 0 && eqb (read 15 13 word) 0
+
+-- a pair of one sample: the second flag is set, and its sample is 0
+unfoldable pub single : ℕ → Bool
+single word = eqb (read 31 29 word) 0 && eqb (read 15 0 word) 8192
+
+-- an integral, a pedestal, or a time whose bits shown zero are zero
+unfoldable pub measure : ℕ → Bool
+measure word = (isDefining 7 word || isDefining 10 word) || (isDefining 8 word && timeFixed word)
+
+-- a window's header with nothing to refuse
+unfoldable pub windowHead : ℕ → Bool
+windowHead word = (isDefining 4 word && windowFixed word) && windowWithin (windowOf word)
+
+-- a pulse's data set begins, with nothing to refuse
+unfoldable pub rawHead : ℕ → Bool
+rawHead word = isDefining 6 word && pulseRawFixed word
+
+-- an event header of that slot and its two time words, with nothing to refuse
+unfoldable pub eventHead : ℕ → ℕ → ℕ → ℕ → Bool
+eventHead slot head low high =
+    allOf (isDefining 2 head ∷ eqb (read 26 22 head) slot ∷ isDefining 3 low ∷ isContinuation high ∷ triggerTimeHighFixed high ∷ eqb (read 23 0 high % 8) (read 26 24 low) ∷ [])
+
+-- ---- words in a row
+
+-- the words from k to before r are such
+pub record All (p : ℕ → Bool) (words : List ℕ) (k r : ℕ) : Type 0 where
+  pub ahead : k ≤ r
+  pub each : (i : ℕ) → k ≤ i → i < r → p (getD words i 0) ≡ true
+
+-- ---- the check from one word on is the check from a later one on
+
+abbrev pub standing : ℕ → ℕ → ℕ → Stage → Scan
+standing place slot left stage = record { place = place; slot = slot; left = left; stage = stage }
+
+-- behind an item at k, as behind an item at r, where no word between stands at the limit
+pub record Passed (words : List ℕ) (k r : ℕ) : Type 0 where
+  pub ahead : k ≤ r
+  pub same : (place slot left : ℕ) → place + (r - k) ≤ 4194303
+      → checkFrom (standing place slot left P.Items) (drop k words) ≡ checkFrom (standing (place + (r - k)) slot left P.Items) (drop r words)
+
+-- the same over events: fewer are left
+pub record PassedTo (words : List ℕ) (slot k left r rest : ℕ) : Type 0 where
+  pub ahead : k ≤ r
+  pub same : (place : ℕ) → place + (r - k) ≤ 4194303
+      → checkFrom (standing place slot left P.Items) (drop k words) ≡ checkFrom (standing (place + (r - k)) slot rest P.Items) (drop r words)
+
+-- the same of a scan and one further on; as many words as there are
+pub record Onward (bytes : List ℕ) (s : Scan) (k : ℕ) (t : Scan) (r : ℕ) : Type 0 where
+  pub ahead : k ≤ r
+  pub within : 4 * k ≤ length bytes → 4 * r ≤ length bytes
+  pub same : checkFrom s (drop k (wordsOfBytes bytes)) ≡ checkFrom t (drop r (wordsOfBytes bytes))

@@ -1,0 +1,244 @@
+-- Words in a row that are passed. Assumes nothing.
+use Prim.Native.Nat.{ℕ, zero, suc, _+_, _-_, _/_, _%_, _≤_, _<_}
+use mathlib.Core.Path.{_≡_, refl, sym, ap, ap₂, _∙_}
+use mathlib.Core.Bool.{Bool, true, false, cond, _&&_, and-false}
+use mathlib.Core.List.{List, [], _∷_}
+use native.Mathlib.Omega.{arith}
+use borrow.Author.Tests.{leb-true, lt-leb, eqb-true, ne-eqb}
+use lib.Dec.{eqb, leb}
+use lib.ListN.{length, getD, drop}
+use Rattle.ground.specs.TestsLaws.{and-left, and-right, every}
+use Rattle.fields.specs.Word.{read}
+use Rattle.fields.specs.Tag.{isDefining, isContinuation}
+use Rattle.limits.specs.Limits.{mostSamples, pairsOf}
+use Rattle.framing.specs.Words.{triggerTimeHighFixed}
+use Rattle.raw.specs.Words.{windowOf, windowFixed, windowWithin}
+use Rattle.scan.specs.declared.Stage.{Stage}
+use Rattle.scan.specs.declared.Stage.the-variants as P
+use Rattle.scan.specs.declared.Scan.{Scan}
+use Rattle.reader.specs.Reader.{checkFrom}
+use Rattle.reader.specs.RunLaws.{cons-at}
+use Rattle.runs.specs.Runs.{plain, single, measure, windowHead, rawHead, All, eventHead, standing, Passed, PassedTo}
+use Rattle.runs.specs.StepsLaws.{measure-passed, window-passed, raw-passed, event-passed, clock-passed, high-passed, plain-passed, plain-raw, single-passed, single-raw, raw-end}
+
+-- nothing passed, and one run behind another
+pub passed-none : (words : List ℕ) (k : ℕ) → Passed words k k
+passed-none words k = record { ahead = omega arith; same = λ place slot left h. (let z : place + (k - k) ≡ place = omega arith in rw z) }
+
+pub passed-more : {words : List ℕ} {k m r : ℕ} → Passed words k m → Passed words m r → Passed words k r
+passed-more {words} {k} {m} {r} a b =
+    record {
+      ahead = omega arith;
+      same = λ place slot left h.
+          (let z : place + (m - k) + (r - m) ≡ place + (r - k) = omega arith in
+          a .same place slot left (omega arith) ∙ b .same (place + (m - k)) slot left (omega arith) ∙ ap (λ (n : ℕ). checkFrom (standing n slot left P.Items) (drop r words)) z);
+    }
+
+at-word : (words : List ℕ) (k : ℕ) (s : Scan) → k < length words → checkFrom s (drop k words) ≡ checkFrom s (getD words k 0 ∷ drop (k + 1) words)
+at-word words k s l = ap (checkFrom s) (cons-at words k (k + 1) l (omega arith))
+
+pub measures-passed : {words : List ℕ} {k r : ℕ} → All measure words k r → r ≤ length words → Passed words k r
+measures-passed {words} {k} {r} a l = record { ahead = a .ahead; same = λ place slot left h. go (r - k) k place slot left (omega arith) (omega arith) h }
+  where
+    go : (n j place slot left : ℕ) → k ≤ j → j + n ≡ r → place + n ≤ 4194303
+        → checkFrom (standing place slot left P.Items) (drop j words) ≡ checkFrom (standing (place + n) slot left P.Items) (drop r words)
+    go zero j place slot left i e h =
+        let y : place + 0 ≡ place = omega arith in
+        let z : j ≡ r = omega arith in
+        rw (y, z)
+    go (suc n) j place slot left i e h =
+        let z : place + 1 + n ≡ place + suc n = omega arith in
+        at-word words j (standing place slot left P.Items) (omega arith)
+        ∙ measure-passed place slot left (drop (j + 1) words) (omega arith) (getD words j 0) (a .each j i (omega arith))
+        ∙ go n (j + 1) (place + 1) slot left (omega arith) (omega arith) (omega arith)
+        ∙ ap (λ (m : ℕ). checkFrom (standing m slot left P.Items) (drop r words)) z
+
+-- ---- a window
+
+-- with n pairs to come
+abbrev toCome : ℕ → Bool → Stage
+toCome zero odd = P.Items
+toCome (suc n) odd = P.Window (suc n) odd
+
+one-less : (n : ℕ) (odd : Bool) → cond (leb (suc n) 1) P.Items (P.Window (suc n - 1) odd) ≡ toCome n odd
+one-less zero odd = refl
+one-less (suc n) odd =
+    let z : suc (suc n) - 1 ≡ suc n = omega arith in
+    rw (lt-leb (suc (suc n)) 1 (omega arith), z)
+
+not-last : (n t : ℕ) (odd : Bool) → eqb t 0 && odd ≡ false → eqb (suc (n + t)) 1 && odd ≡ false
+not-last n zero odd h = rw h (and-false (eqb (suc (n + 0)) 1))
+not-last n (suc t) odd h = rw (ne-eqb (suc (n + suc t)) 1 (omega arith))
+
+-- pairs of two samples, up to the last one or two
+pairs-passed : (words : List ℕ) (t : ℕ) (odd : Bool) → eqb t 0 && odd ≡ false → (n k : ℕ) → All plain words k (k + n) → k + n ≤ length words
+    → (place slot left : ℕ) → place + n ≤ 4194303
+    → checkFrom (standing place slot left (toCome (n + t) odd)) (drop k words) ≡ checkFrom (standing (place + n) slot left (toCome t odd)) (drop (k + n) words)
+pairs-passed words t odd d zero k a l place slot left h =
+    let x : 0 + t ≡ t = omega arith in
+    let y : place + 0 ≡ place = omega arith in
+    let z : k + 0 ≡ k = omega arith in
+    rw (x, y, z)
+pairs-passed words t odd d (suc n) k a l place slot left h =
+    let x : suc n + t ≡ suc (n + t) = omega arith in
+    let y : place + 1 + n ≡ place + suc n = omega arith in
+    let z : k + 1 + n ≡ k + suc n = omega arith in
+    rw x
+    (at-word words k (standing place slot left (P.Window (suc (n + t)) odd)) (omega arith)
+    ∙ plain-passed place slot left (drop (k + 1) words) (omega arith) (getD words k 0) (a .each k (omega arith) (omega arith)) (suc (n + t)) odd (not-last n t odd d)
+    ∙ ap (λ (p : Stage). checkFrom (standing (place + 1) slot left p) (drop (k + 1) words)) (one-less (n + t) odd)
+    ∙ pairs-passed words t odd d n (k + 1) (record { ahead = omega arith; each = λ i g j. a .each i (omega arith) (omega arith) }) (omega arith) (place + 1) slot left (omega arith)
+    ∙ ap₂ (λ (i j : ℕ). checkFrom (standing i slot left (toCome t odd)) (drop j words)) y z)
+
+-- behind the pairs of two samples: the last of an odd width
+end-passed : (words : List ℕ) (t : ℕ) → t < 2 → (k : ℕ) → All single words k (k + t) → k + t ≤ length words → (place slot left : ℕ) → place + t ≤ 4194303
+    → checkFrom (standing place slot left (toCome t (eqb t 1))) (drop k words) ≡ checkFrom (standing (place + t) slot left P.Items) (drop (k + t) words)
+end-passed words zero u k a l place slot left h =
+    let y : place + 0 ≡ place = omega arith in
+    let z : k + 0 ≡ k = omega arith in
+    rw (y, z)
+end-passed words (suc zero) u k a l place slot left h =
+    at-word words k (standing place slot left (P.Window 1 true)) (omega arith)
+    ∙ single-passed place slot left (drop (k + 1) words) (omega arith) (getD words k 0) (a .each k (omega arith) (omega arith))
+end-passed words (suc (suc t)) u k a l place slot left h = absurd (omega arith)
+
+to-come : (n : ℕ) (odd : Bool) → 1 ≤ n → P.Window n odd ≡ toCome n odd
+to-come zero odd h = absurd (omega arith)
+to-come (suc n) odd h = refl
+
+even-or-odd : (t : ℕ) → eqb t 0 && eqb t 1 ≡ false
+even-or-odd zero = refl
+even-or-odd (suc t) = rw (ne-eqb (suc t) 0 (omega arith))
+
+-- a header, its pairs of two samples, and the last of an odd width
+pub window-run : {words : List ℕ} {k : ℕ} (width : ℕ) → windowHead (getD words k 0) ≡ true → width ≡ read 11 0 (getD words k 0)
+    → All plain words (k + 1) (k + 1 + width / 2) → All single words (k + 1 + width / 2) (k + 1 + width / 2 + width % 2) → k + 1 + width / 2 + width % 2 ≤ length words
+    → Passed words k (k + 1 + width / 2 + width % 2)
+unfolding windowHead windowWithin windowOf pairsOf
+window-run {words} {k} width d w a b l =
+    let n = width / 2 in
+    let t = width % 2 in
+    let some : 1 ≤ width = rw w (leb-true 1 _ (and-left _ (leb (read 11 0 (getD words k 0)) mostSamples) (and-right (isDefining 4 (getD words k 0) && windowFixed (getD words k 0)) _ d))) in
+    let half : (width + 1) / 2 ≡ width / 2 + width % 2 = omega arith in
+    record {
+      ahead = omega arith;
+      same = λ place slot left h.
+          (let z : place + 1 + n + t ≡ place + (k + 1 + n + t - k) = omega arith in
+          at-word words k (standing place slot left P.Items) (omega arith)
+          ∙ window-passed place slot left (drop (k + 1) words) (omega arith) (getD words k 0) d
+          ∙ ap (λ (p : Stage). checkFrom (standing (place + 1) slot left p) (drop (k + 1) words))
+          (ap (λ (x : ℕ). P.Window (pairsOf x) (eqb (x % 2) 1)) (sym w) ∙ ap (λ (x : ℕ). P.Window x (eqb t 1)) half ∙ to-come (n + t) (eqb t 1) (omega arith))
+          ∙ pairs-passed words t (eqb t 1) (even-or-odd t) n (k + 1) a (omega arith) (place + 1) slot left (omega arith)
+          ∙ end-passed words t (omega arith) (k + 1 + n) b l (place + 1 + n) slot left (omega arith)
+          ∙ ap (λ (m : ℕ). checkFrom (standing m slot left P.Items) (drop (k + 1 + n + t) words)) z);
+    }
+
+-- ---- a data set
+
+-- pairs of two samples: as many fewer may come
+raw-pairs : (words : List ℕ) (t : ℕ) (n k : ℕ) (some : Bool) → All plain words k (k + n) → k + n ≤ length words
+    → (place slot left : ℕ) → place + n ≤ 4194303
+    → checkFrom (standing place slot left (P.Raw (n + t) some)) (drop k words) ≡ checkFrom (standing (place + n) slot left (P.Raw t (cond (eqb n 0) some true))) (drop (k + n) words)
+raw-pairs words t zero k some a l place slot left h =
+    let x : 0 + t ≡ t = omega arith in
+    let y : place + 0 ≡ place = omega arith in
+    let z : k + 0 ≡ k = omega arith in
+    rw (x, y, z)
+raw-pairs words t (suc n) k some a l place slot left h =
+    let x : suc n + t - 1 ≡ n + t = omega arith in
+    let y : place + 1 + n ≡ place + suc n = omega arith in
+    let z : k + 1 + n ≡ k + suc n = omega arith in
+    at-word words k (standing place slot left (P.Raw (suc n + t) some)) (omega arith)
+    ∙ plain-raw place slot left (drop (k + 1) words) (omega arith) (getD words k 0) (a .each k (omega arith) (omega arith)) (suc n + t) some (omega arith)
+    ∙ ap (λ (m : ℕ). checkFrom (standing (place + 1) slot left (P.Raw m true)) (drop (k + 1) words)) x
+    ∙ raw-pairs words t n (k + 1) true (record { ahead = omega arith; each = λ i g j. a .each i (omega arith) (omega arith) }) (omega arith) (place + 1) slot left (omega arith)
+    ∙ ap (λ (b : Bool). checkFrom (standing (place + 1 + n) slot left (P.Raw t b)) (drop (k + 1 + n) words)) (either (eqb n 0) ∙ sym (ap (λ (b : Bool). cond b some true) (ne-eqb (suc n) 0 (omega arith))))
+    ∙ ap₂ (λ (i j : ℕ). checkFrom (standing i slot left (P.Raw t (cond (eqb (suc n) 0) some true))) (drop j words)) y z
+  where
+    either : (b : Bool) → cond b true true ≡ true
+    either true = refl
+    either false = refl
+
+-- behind them one of one sample, or none
+raw-single : (words : List ℕ) (u : ℕ) → u < 2 → (t k : ℕ) (some : Bool) → u ≤ t → (u ≡ 0 → some ≡ true) → All single words k (k + u) → k + u < length words
+    → isContinuation (getD words (k + u) 0) ≡ false → (place slot left : ℕ) → place + u ≤ 4194303
+    → checkFrom (standing place slot left (P.Raw t some)) (drop k words) ≡ checkFrom (standing (place + u) slot left P.Items) (drop (k + u) words)
+raw-single words zero v t k some w e a l d place slot left h =
+    let y : place + 0 ≡ place = omega arith in
+    let z : k + 0 ≡ k = omega arith in
+    rw (y, z, e refl) (at-word words k (standing place slot left (P.Raw t true)) (omega arith) ∙ raw-end place slot left t (getD words k 0) (drop (k + 1) words) (rw z at d) ∙ sym (at-word words k (standing place slot left P.Items) (omega arith)))
+raw-single words (suc zero) v t k some w e a l d place slot left h =
+    at-word words k (standing place slot left (P.Raw t some)) (omega arith)
+    ∙ single-raw place slot left (drop (k + 1) words) (omega arith) (getD words k 0) (a .each k (omega arith) (omega arith)) t some w
+    ∙ at-word words (k + 1) (standing (place + 1) slot left (P.Raw 0 true)) l
+    ∙ raw-end (place + 1) slot left 0 (getD words (k + 1) 0) (drop (k + 1 + 1) words) d
+    ∙ sym (at-word words (k + 1) (standing (place + 1) slot left P.Items) l)
+raw-single words (suc (suc u)) v t k some w e a l d place slot left h = absurd (omega arith)
+
+-- a header, at least one pair and at most 250, and a defining word behind them
+pub raw-run : {words : List ℕ} {k m r : ℕ} → rawHead (getD words k 0) ≡ true → All plain words (k + 1) m → All single words m r → r ≤ m + 1
+    → k + 1 < r → r ≤ k + 251 → r < length words → isContinuation (getD words r 0) ≡ false → Passed words k r
+raw-run {words} {k} {m} {r} d a b u s t l e =
+    let n = m - (k + 1) in
+    let x : k + 1 + n ≡ m = omega arith in
+    let y : m + (r - m) ≡ r = omega arith in
+    let w : n + (250 - n) ≡ 250 = omega arith in
+    record {
+      ahead = omega arith;
+      same = λ place slot left h.
+          (let z : place + 1 + n + (r - m) ≡ place + (r - k) = omega arith in
+          at-word words k (standing place slot left P.Items) (omega arith)
+          ∙ raw-passed place slot left (drop (k + 1) words) (omega arith) (getD words k 0) d
+          ∙ ap (λ (i : ℕ). checkFrom (standing (place + 1) slot left (P.Raw i false)) (drop (k + 1) words)) (sym w)
+          ∙ raw-pairs words (250 - n) n (k + 1) false (rw (← x) at a) (omega arith) (place + 1) slot left (omega arith)
+          ∙ ap (λ (i : ℕ). checkFrom (standing (place + 1 + n) slot left (P.Raw (250 - n) (cond (eqb n 0) false true))) (drop i words)) x
+          ∙ raw-single words (r - m) (omega arith) (250 - n) m (cond (eqb n 0) false true) (omega arith) (λ q. ap (λ (b : Bool). cond b false true) (ne-eqb n 0 (omega arith))) (rw (← y) at b) (omega arith) (rw (← y) at e) (place + 1 + n) slot left (omega arith)
+          ∙ ap₂ (λ (i j : ℕ). checkFrom (standing i slot left P.Items) (drop j words)) z y);
+    }
+
+-- ---- events
+
+pub items-passed : {words : List ℕ} {slot k left r : ℕ} → Passed words k r → PassedTo words slot k left r left
+items-passed {slot = slot} {left = left} a = record { ahead = a .ahead; same = λ place h. a .same place slot left h }
+
+pub events-more : {words : List ℕ} {slot k left m some r rest : ℕ} → PassedTo words slot k left m some → PassedTo words slot m some r rest → PassedTo words slot k left r rest
+events-more {words} {slot} {k} {left} {m} {some} {r} {rest} a b =
+    record {
+      ahead = omega arith;
+      same = λ place h.
+          (let z : place + (m - k) + (r - m) ≡ place + (r - k) = omega arith in
+          a .same place (omega arith) ∙ b .same (place + (m - k)) (omega arith) ∙ ap (λ (n : ℕ). checkFrom (standing n slot rest P.Items) (drop r words)) z);
+    }
+
+pub event-run : {words : List ℕ} {slot k left : ℕ} → eventHead slot (getD words k 0) (getD words (k + 1) 0) (getD words (k + 2) 0) ≡ true → 1 ≤ left → k + 3 ≤ length words
+    → PassedTo words slot k left (k + 3) (left - 1)
+unfolding eventHead
+event-run {words} {slot} {k} {left} d s l =
+    let head = getD words k 0 in
+    let low = getD words (k + 1) 0 in
+    let high = getD words (k + 2) 0 in
+    let e = every (isDefining 2 head ∷ eqb (read 26 22 head) slot ∷ isDefining 3 low ∷ isContinuation high ∷ triggerTimeHighFixed high ∷ eqb (read 23 0 high % 8) (read 26 24 low) ∷ []) d in
+    let second : k + 1 + 1 ≡ k + 2 = omega arith in
+    let third : k + 2 + 1 ≡ k + 3 = omega arith in
+    record {
+      ahead = omega arith;
+      same = λ place h.
+          (let z : place + 1 + 1 + 1 ≡ place + (k + 3 - k) = omega arith in
+          at-word words k (standing place slot left P.Items) (omega arith)
+          ∙ event-passed place slot left (drop (k + 1) words) (omega arith) head (e .0) (eqb-true (read 26 22 head) slot (e .1 .0)) s
+          ∙ at-word words (k + 1) (standing (place + 1) slot (left - 1) P.Opened) (omega arith)
+          ∙ clock-passed (place + 1) slot (left - 1) (drop (k + 1 + 1) words) (omega arith) low (e .1 .1 .0)
+          ∙ ap (λ (i : ℕ). checkFrom (standing (place + 1 + 1) slot (left - 1) (P.Timed (read 26 24 low))) (drop i words)) second
+          ∙ at-word words (k + 2) (standing (place + 1 + 1) slot (left - 1) (P.Timed (read 26 24 low))) (omega arith)
+          ∙ high-passed (place + 1 + 1) slot (left - 1) (drop (k + 2 + 1) words) (omega arith) (read 26 24 low) high (e .1 .1 .1 .0) (e .1 .1 .1 .1 .0) (eqb-true (read 23 0 high % 8) (read 26 24 low) (e .1 .1 .1 .1 .1 .0))
+          ∙ ap₂ (λ (i j : ℕ). checkFrom (standing i slot (left - 1) P.Items) (drop j words)) z third);
+    }
+
+-- ---- the scan behind them
+
+pub onward-by : {words : List ℕ} {k r rest : ℕ} (s : Scan) {t : Scan} → s .stage ≡ P.Items → PassedTo words (s .slot) k (s .left) r rest → s .place + (r - k) ≤ 4194303
+    → t ≡ standing (s .place + (r - k)) (s .slot) rest P.Items → checkFrom s (drop k words) ≡ checkFrom t (drop r words)
+onward-by {words} {k} {r} s e a h i =
+    ap (λ (p : Stage). checkFrom (standing (s .place) (s .slot) (s .left) p) (drop k words)) e
+    ∙ a .same (s .place) h
+    ∙ ap (λ (u : Scan). checkFrom u (drop r words)) (sym i)
