@@ -62,6 +62,14 @@ channel-within s t w r =
     fewer true false n = omega arith
     fewer false y n = omega arith
 
+-- a longer window takes no fewer words
+parts-le : (m : Parts) (k n : ℕ) → k ≤ n → partsMost m k ≤ partsMost m n
+parts-le m k n h = omega (arith, set-le m k n h, cond-le (m .window) (1 + pairsOf k) (1 + pairsOf n) (pairs-le k n h))
+
+pub mode-le : (mode k n : ℕ) → k ≤ n → modeMost mode k ≤ modeMost mode n
+unfolding modeMost
+mode-le mode k n h = parts-le (partsOf mode) k n h
+
 -- ---- whatever the mode
 
 AllMost : List (ℕ × Parts) → Type 0
@@ -106,10 +114,10 @@ found-most m n found h r =
 
 pub mode-most : (mode n : ℕ) → n ≤ mostSamples → modeMost mode n ≤ mostChannel
 unfolding modeMost partsOf
-mode-most mode n h =
-    let m : Parts = rowOfMode modeTable mode in
-    omega (arith, row-most mode modeTable table-most, set-le m n mostSamples h, cond-le (m .window) (1 + pairsOf n) (1 + pairsOf mostSamples) (pairs-le n mostSamples h))
+mode-most mode n h = le-trans (parts-le (rowOfMode modeTable mode) n mostSamples h) (row-most mode modeTable table-most)
 
 -- a channel is at most 753 words
 pub channel-most : (s : Settings) (t : ℕ) (w : List ℕ) → searchable (length w) (s .nsa) (s .limit) ≡ true → channelLength (commonOf s) t w ≤ mostChannel
-channel-most s t w ok = let r = searched _ _ _ ok in omega (arith, channel-within (commonOf s) t w r, mode-most (s .mode) (length w) (r .short))
+channel-most s t w ok =
+    let r = searched _ _ _ ok in
+    le-trans (channel-within (commonOf s) t w r) (mode-most (s .mode) (length w) (r .short))

@@ -158,13 +158,6 @@ is-found s t w m found r e =
     go true on = refl
     go false off = length-none m _ off ∙ sym (length-none m (pulsesOf s t w) off)
 
--- the count from the numbers that the code has
-pub channel-counted : (s : Common) (t : ℕ) (w : List ℕ) (m : Parts) (on : Bool) (found : Pulses) (a b : ℕ) → m ≡ partsOf (s .mode)
-    → on ≡ (m .window && anyOver w t) → IsFound s t w m found → a ≡ cond on (1 + pairsOf (length w)) 0 → b ≡ pulsesLength m (listed found)
-    → a + b ≡ channelLength s t w
-unfolding channelLength
-channel-counted s t w m on found a b p o f ha hb = rw (ha, hb, f .size, o, p)
-
 -- ---- by the first TC
 
 from-none : (w : List ℕ) (t nsb nsa n : ℕ) → tcFrom w t 0 ≡ 0 → pulsesFrom w t nsb nsa n 0 ≡ []
@@ -172,33 +165,38 @@ unfolding pulsesFrom
 from-none w t nsb nsa zero h = refl
 from-none w t nsb nsa (suc n) h = rw h
 
-any-first : (w : List ℕ) (t : ℕ) → anyOver w t ≡ ltb 0 (tcFrom w t 0)
+pub any-first : (w : List ℕ) (t : ℕ) → anyOver w t ≡ ltb 0 (tcFrom w t 0)
 unfolding overIn tcFrom
 any-first w t = refl
 
+any-over : (w : List ℕ) (t : ℕ) → 1 ≤ tcFrom w t 0 → anyOver w t ≡ true
+any-over w t h = any-first w t ∙ lt-ltb 0 (tcFrom w t 0) h
+
+and-on : {A : Type 0} (b : Bool) (x y : A) → cond (b && true) x y ≡ cond b x y
+and-on true x y = refl
+and-on false x y = refl
+
 -- without one the channel has no words
-pub channel-quiet : (s : Common) (t c : ℕ) (w : List ℕ) (first : ℕ) → first ≡ tcFrom w t 0 → first ≡ 0 → channelItems s t c w ≡ []
+pub channel-quiet : (s : Common) (t c : ℕ) (w : List ℕ) → tcFrom w t 0 ≡ 0 → channelItems s t c w ≡ []
 unfolding channelItems pulsesItems
-channel-quiet s t c w first e z =
-    let h : tcFrom w t 0 ≡ 0 = sym e ∙ z in
-    rw (any-first w t, h, from-none w t (s .nsb) (s .nsa) (s .limit) h) (off (partsOf (s .mode) .window))
+channel-quiet s t c w h = rw (any-first w t, h, from-none w t (s .nsb) (s .nsa) (s .limit) h) (off (partsOf (s .mode) .window))
   where
     off : (b : Bool) → cond (b && false) (windowItems c w) [] ++ [] ≡ []
     off true = refl
     off false = refl
 
 -- with one it has its window where the mode writes it, and the pulses of which the mode writes
-pub channel-busy : (s : Common) (t c : ℕ) (w : List ℕ) (m : Parts) (first most : ℕ) → first ≡ tcFrom w t 0 → (first ≡ 0 → ⊥) → m ≡ partsOf (s .mode) → most ≡ limitFor m (s .limit)
+pub channel-busy : (s : Common) (t c : ℕ) (w : List ℕ) (m : Parts) (most : ℕ) → 1 ≤ tcFrom w t 0 → m ≡ partsOf (s .mode) → most ≡ limitFor m (s .limit)
     → channelItems s t c w ≡ cond (m .window) (windowItems c w) [] ++ pulsesItems m c w 0 (pulsesFrom w t (s .nsb) (s .nsa) most 0)
 unfolding channelItems
-channel-busy s t c w m first most e g p q =
-    let any : anyOver w t ≡ true = any-first w t ∙ lt-ltb 0 (tcFrom w t 0) (omega (arith, e, g)) in
-    rw (any, ← p, q) (ap₂ (λ (x y : List Item). x ++ y) (on (m .window)) (go (ofPulses m) refl))
+channel-busy s t c w m most h p q = rw (any-over w t h, ← p, q) (ap₂ (λ (x y : List Item). x ++ y) (and-on (m .window) (windowItems c w) []) (go (ofPulses m) refl))
   where
-    on : (b : Bool) → cond (b && true) (windowItems c w) [] ≡ cond b (windowItems c w) []
-    on true = refl
-    on false = refl
-
     go : (b : Bool) → ofPulses m ≡ b → pulsesItems m c w 0 (pulsesOf s t w) ≡ pulsesItems m c w 0 (pulsesFrom w t (s .nsb) (s .nsa) (cond b (s .limit) 0) 0)
-    go true h = refl
-    go false h = items-none m c w 0 (pulsesOf s t w) h ∙ sym (items-none m c w 0 _ h)
+    go true on = refl
+    go false off = items-none m c w 0 (pulsesOf s t w) off ∙ sym (items-none m c w 0 _ off)
+
+-- the count from the numbers that the code has
+pub channel-counted : (s : Common) (t : ℕ) (w : List ℕ) (m : Parts) (found : Pulses) (a b : ℕ) → 1 ≤ tcFrom w t 0 → m ≡ partsOf (s .mode) → IsFound s t w m found
+    → a ≡ cond (m .window) (1 + pairsOf (length w)) 0 → b ≡ pulsesLength m (listed found) → a + b ≡ channelLength s t w
+unfolding channelLength
+channel-counted s t w m found a b h p f ha hb = rw (any-over w t h, ← p, ha, hb, f .size) (ap (λ (x : ℕ). x + pulsesLength m (pulsesOf s t w)) (sym (and-on (m .window) (1 + pairsOf (length w)) 0)))

@@ -121,18 +121,7 @@ fn limit_for(parts: Parts, limit: usize) -> usize
     }
 }
 
-// The window is wanted if any sample is over; a mode that writes no window looks at none.
-fn window_for(parts: Parts, threshold: u32, row: &[u16]) -> bool
-    ensures { λ r. ⌜ r ≡ (parts .window && anyOver (now (row .entry)) threshold) ⌝ }
-{
-    if parts.window {
-        search::any_over(row, threshold)
-    } else {
-        false
-    }
-}
-
-// The words of a channel that has room: where no sample is over none, else the window where the mode writes it, then the pulses.
+// The words of a channel that has a pulse, and room: the window where the mode writes it, then the pulses.
 fn put_found(
     words: &mut [u32],
     at: usize,
@@ -143,15 +132,12 @@ fn put_found(
     threshold: u32,
     channel: u32,
     row: &[u16],
+    first: usize,
 ) -> usize
-    requires { ⌜ Searched (length (now row)) nsa limit ⌝ }
+    requires { ⌜ Searched (length (now row)) nsa limit × (first ≡ tcFrom (now row) threshold 0) × (1 ≤ first) ⌝ }
     requires { ⌜ at + length (channelItems (record { mode = mode; nsb = nsb; nsa = nsa; limit = limit }) threshold channel (now row)) ≤ length (now words) ⌝ }
     ensures { λ r. ⌜ Written (now (words .entry)) at (channelWords (record { mode = mode; nsb = nsb; nsa = nsa; limit = limit }) threshold channel (now (row .entry))) r (now (words .exit)) ⌝ }
 {
-    let first = search::tc_from(row, threshold, 0);
-    if first == 0 {
-        return at;
-    }
     let parts = parts_of(mode);
     let most = limit_for(parts, limit);
     let window = put_window_if(words, at, parts.window, channel, row);
@@ -178,14 +164,13 @@ fn count_found(
     threshold: u32,
     row: &[u16],
 ) -> usize
-    requires { ⌜ Searched (length (now row)) nsa limit ⌝ }
+    requires { ⌜ Searched (length (now row)) nsa limit × (1 ≤ tcFrom (now row) threshold 0) ⌝ }
     ensures { λ r. ⌜ r ≡ channelLength (record { mode = mode; nsb = nsb; nsa = nsa; limit = limit }) threshold (now (row .entry)) ⌝ }
 {
     let parts = parts_of(mode);
-    let wanted = window_for(parts, threshold, row);
     let most = limit_for(parts, limit);
     let found = finder::pulses_of(row, threshold, nsb, nsa, most);
-    pairs::run_length_if(wanted, row.len()) + count::pulses_length(parts, found, row.len())
+    pairs::run_length_if(parts.window, row.len()) + count::pulses_length(parts, found, row.len())
 }
 
 // No channel of so many samples takes more words in the mode; 0 where no window has so many.
@@ -212,7 +197,7 @@ fn channel_short(
     threshold: u32,
     row: &[u16],
 ) -> bool
-    requires { ⌜ Searched (length (now row)) nsa limit ⌝ }
+    requires { ⌜ Searched (length (now row)) nsa limit × (1 ≤ tcFrom (now row) threshold 0) ⌝ }
     ensures { λ r. ⌜ r ≡ ltb room (at + channelLength (record { mode = mode; nsb = nsb; nsa = nsa; limit = limit }) threshold (now (row .entry))) ⌝ }
 {
     if !room_short(room, at, most_words(mode, row.len())) {
@@ -222,7 +207,7 @@ fn channel_short(
     room_short(room, at, count)
 }
 
-// The words of a channel: of the common settings, its own threshold, its number and its window.
+// The words of a channel: of the common settings, its own threshold, its number and its window. Without a sample over there are none.
 pub fn put_channel(
     words: &mut [u32],
     at: usize,
@@ -240,25 +225,43 @@ pub fn put_channel(
     if !finder::can_search(row.len(), nsa, limit) {
         return at;
     }
+    let first = search::tc_from(row, threshold, 0);
+    if first == 0 {
+        return at;
+    }
     if channel_short(words.len(), at, mode, nsb, nsa, limit, threshold, row) {
         return at;
     }
-    put_found(words, at, mode, nsb, nsa, limit, threshold, channel, row)
+    put_found(
+        words,
+        at,
+        mode,
+        nsb,
+        nsa,
+        limit,
+        threshold,
+        channel,
+        row,
+        first,
+    )
 }
 
 // How many words that is, whatever the channel's number.
 pub fn channel_length(settings: Settings, threshold: u32, row: &[u16]) -> usize
     ensures { λ r. ⌜ r ≡ cond (searchable (length (now (row .entry))) (settings .nsa) (settings .limit)) (length (channelItems (commonOf settings) threshold 0 (now (row .entry)))) 0 ⌝ }
 {
-    if finder::can_search(row.len(), settings.nsa, settings.limit) {
-        return count_found(
-            settings.mode,
-            settings.nsb,
-            settings.nsa,
-            settings.limit,
-            threshold,
-            row,
-        );
+    if !finder::can_search(row.len(), settings.nsa, settings.limit) {
+        return 0;
     }
-    0
+    if !search::any_over(row, threshold) {
+        return 0;
+    }
+    count_found(
+        settings.mode,
+        settings.nsb,
+        settings.nsa,
+        settings.limit,
+        threshold,
+        row,
+    )
 }

@@ -4,24 +4,25 @@ use mathlib.Core.Path.{_≡_, refl, sym, ap, ap₂, _∙_}
 use mathlib.Core.Bool.{Bool, true, false, cond}
 use mathlib.Core.List.{List, [], _∷_, _++_}
 use native.Mathlib.Omega.{arith}
-use native.Mathlib.Nat.{mul-le-mul-right}
+use native.Mathlib.Nat.{le-trans, mul-le-mul-right}
 use lib.ListN.{length, getD, drop, length-append, length-take, drop-of-length-le}
 use lib.Dec.{leb}
 use Rattle.ground.specs.Splice.{Written}
 use Rattle.ground.specs.WritingLaws.{Left}
 use Rattle.settings.specs.declared.Settings.{Settings}
-use Rattle.limits.specs.Limits.{mostSamples, mostChannel, channels, mostEvent}
+use Rattle.limits.specs.Limits.{mostChannel, channels, mostEvent}
 use Rattle.limits.specs.LimitsLaws.{event-is}
 use Rattle.settings.specs.Ranges.{settingsOk}
 use Rattle.settings.specs.RangesLaws.{settings-in-range}
-use Rattle.finder.specs.FindLaws.{range-searches}
+use Rattle.finder.specs.FindLaws.{searched, range-searches}
 use Rattle.items.specs.Items.{wordsOf, itemIf}
 use Rattle.items.specs.declared.Item.{Item}
 use Rattle.items.specs.declared.Item.the-variants as I
 use Rattle.items.specs.ItemsLaws.{loop-room, loop-less, loop-none}
 use Rattle.channel.specs.Channel.{commonOf, channelItems}
 use Rattle.channel.specs.InnerLaws.{length-channel, any-channel}
-use Rattle.channel.specs.BoundLaws.{channel-most}
+use Rattle.channel.specs.Inner.{modeMost}
+use Rattle.channel.specs.BoundLaws.{channel-within, mode-le, mode-most}
 use Rattle.rows.specs.Rows.{row}
 use Rattle.rows.specs.RowsLaws.{marks-step}
 use Rattle.event.specs.Event.{timeItems, channelsItems, eventItems}
@@ -82,12 +83,13 @@ module _ (s : Settings) (store : List ℕ) (posted : List Bool) (ok : settingsOk
   pub count-end : length posted ≤ c → n ≡ length (channelsItems s store 0 posted)
   count-end h = let k = rw (channels-end s store posted c h) at so-far in omega (arith, k)
 
--- a posted channel is no longer than the longest
-posted-most : (s : Settings) (t : ℕ) (w : List ℕ) (b : Bool) → settingsOk s ≡ true → length w ≤ mostSamples
-    → cond b (length (channelItems (commonOf s) t 0 w)) 0 ≤ mostChannel
+-- a posted channel is no longer than the longest in its mode
+posted-most : (s : Settings) (t : ℕ) (w : List ℕ) (b : Bool) → settingsOk s ≡ true → length w ≤ s .nw
+    → cond b (length (channelItems (commonOf s) t 0 w)) 0 ≤ modeMost (s .mode) (s .nw)
 posted-most s t w true ok h =
     let r = settings-in-range s ok in
-    rw (length-channel (commonOf s) t 0 w (r .nsa .0)) (channel-most s t w (range-searches s (length w) r h))
+    let can = searched (length w) (s .nsa) (s .limit) (range-searches s (length w) r (le-trans h (r .nw .1))) in
+    rw (length-channel (commonOf s) t 0 w (r .nsa .0)) (le-trans (channel-within (commonOf s) t w can) (mode-le (s .mode) (length w) (s .nw) h))
 posted-most s t w false ok h = omega arith
 
 -- ---- an event
@@ -115,12 +117,13 @@ unfolding eventItems eventLength
 length-event s number time posted store ok =
     omega (arith, length-append (timeItems (s .times) time) (channelsItems s store 0 posted), length-times (s .times) time (settings-in-range s ok .times))
 
-length-channels : (s : Settings) (store : List ℕ) (c : ℕ) (posted : List Bool) → settingsOk s ≡ true → length (channelsItems s store c posted) ≤ length posted * mostChannel
+length-channels : (s : Settings) (store : List ℕ) (c : ℕ) (posted : List Bool) → settingsOk s ≡ true
+    → length (channelsItems s store c posted) ≤ length posted * modeMost (s .mode) (s .nw)
 unfolding channelsItems row
 length-channels s store c [] ok = omega arith
 length-channels s store c (m ∷ ms) ok =
     let w = row (s .nw) c store in
-    let short : length w ≤ mostSamples = simp length-take (omega (arith, settings-in-range s ok .nw .1)) in
+    let short : length w ≤ s .nw = simp length-take (omega arith) in
     let t = getD (s .thresholds) c 0 in
     omega (
       arith,
@@ -132,7 +135,15 @@ length-channels s store c (m ∷ ms) ok =
 
 pub channels-most : (s : Settings) (posted : List Bool) (store : List ℕ) → settingsOk s ≡ true → length posted ≤ channels
     → length (channelsItems s store 0 posted) ≤ channels * mostChannel
-channels-most s posted store ok h = omega (arith, length-channels s store 0 posted ok, mul-le-mul-right mostChannel h)
+channels-most s posted store ok h =
+    omega (arith, length-channels s store 0 posted ok, mul-le-mul-right (modeMost (s .mode) (s .nw)) h, mode-most (s .mode) (s .nw) (settings-in-range s ok .nw .1))
+
+-- no event is longer in its mode
+pub event-within : (s : Settings) (posted : List Bool) (store : List ℕ) → settingsOk s ≡ true → length posted ≤ channels
+    → eventLength s posted store ≤ 3 + channels * modeMost (s .mode) (s .nw)
+unfolding eventLength
+event-within s posted store ok h =
+    omega (arith, length-channels s store 0 posted ok, mul-le-mul-right (modeMost (s .mode) (s .nw)) h, settings-in-range s ok .times)
 
 -- an event is at most 12,051 words, and at least its header and time words
 pub event-most : (s : Settings) (posted : List Bool) (store : List ℕ) → settingsOk s ≡ true → length posted ≤ channels → eventLength s posted store ≤ mostEvent

@@ -3,6 +3,7 @@ use framing::event_header::EventHeader;
 use framing::trigger_time::TriggerTime;
 use framing::trigger_time_high::TriggerTimeHigh;
 use items::Item;
+use limits::CHANNELS;
 use settings::Settings;
 ghost use mathlib.Core.Path.{_≡_};
 ghost use mathlib.Core.Bool.{true, cond, _&&_};
@@ -158,12 +159,13 @@ fn event_length(settings: Settings, posted: &[bool], store: &[u16]) -> usize
     1 + (settings.times as usize) + channels_length(settings, posted, store)
 }
 
-// Fewer words are left than the event takes. Where there is room for the longest event, nothing is counted.
+// Fewer words are left than the event takes. Where there is room for the longest in the mode, nothing is counted.
 fn event_short(room: usize, at: usize, settings: Settings, posted: &[bool], store: &[u16]) -> bool
     requires { ⌜ Lent settings (now posted) (now store) ⌝ }
     ensures { λ r. ⌜ r ≡ ltb room (at + eventLength settings (now (posted .entry)) (now (store .entry))) ⌝ }
 {
-    if !items::put::room_short(room, at, limits::MOST_EVENT) {
+    let channel = channel::most_words(settings.mode, settings.nw);
+    if !items::put::room_short(room, at, 3 + CHANNELS * channel) {
         return false;
     }
     items::put::room_short(room, at, event_length(settings, posted, store))

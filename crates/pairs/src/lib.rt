@@ -11,35 +11,34 @@ ghost use Rattle.limits.specs.Limits.{pairsOf};
 ghost use Rattle.items.specs.Items.{wordOf, wordsOf};
 ghost use Rattle.pairs.specs.Pairs.{pairItems};
 
-fn pair_of(first: u16, second: u16) -> SamplePair
-    ensures { λ r. ⌜ r ≡ record { nofirst = 0; first = first; nosecond = 0; second = second } ⌝ }
+// The thirteen bits of each sample in a pair's word.
+const BOTH: u32 = SamplePair::FIRST_MAX * 65536 + SamplePair::SECOND_MAX;
+
+// As the record's `build`, but what is over is cut off both samples at once: most words of a block are pairs, and so four are made together.
+fn pair_word(first: u16, second: u16) -> u32
+    ensures { λ r. ⌜ r ≡ wordOf (Item.Pair (record { nofirst = 0; first = first; nosecond = 0; second = second })) ⌝ }
 {
-    SamplePair {
-        nofirst: 0,
-        first: first as u32,
-        nosecond: 0,
-        second: second as u32,
-    }
+    ((first as u32) * 65536 + second as u32) & BOTH
 }
 
 // The odd end: bit 13 says that there is no second sample.
-fn odd_end(first: u16) -> SamplePair
-    ensures { λ r. ⌜ r ≡ record { nofirst = 0; first = first; nosecond = 1; second = 0 } ⌝ }
+fn odd_word(first: u16) -> u32
+    ensures { λ r. ⌜ r ≡ wordOf (Item.Pair (record { nofirst = 0; first = first; nosecond = 1; second = 0 })) ⌝ }
 {
-    SamplePair {
+    let pair = SamplePair {
         nofirst: 0,
         first: first as u32,
         nosecond: 1,
         second: 0,
-    }
+    };
+    pair.build()
 }
 
-// As `put_item`, but no item is made: most words of a block are pairs.
-fn put_pair(words: &mut [u32], at: usize, pair: SamplePair) -> usize
+fn put_word(words: &mut [u32], at: usize, word: u32) -> usize
     requires { ⌜ at < length (now words) ⌝ }
-    ensures { λ r. ⌜ Written (now (words .entry)) at (wordOf (Item.Pair pair) ∷ []) r (now (words .exit)) ⌝ }
+    ensures { λ r. ⌜ Written (now (words .entry)) at (word ∷ []) r (now (words .exit)) ⌝ }
 {
-    words[at] = pair.build();
+    words[at] = word;
     at + 1
 }
 
@@ -51,11 +50,11 @@ fn put_pairs(words: &mut [u32], at: usize, samples: &[u16]) -> usize
     let mut next = at;
     let mut i = 0;
     while i + 1 < samples.len() {
-        next = put_pair(words, next, pair_of(samples[i], samples[i + 1]));
+        next = put_word(words, next, pair_word(samples[i], samples[i + 1]));
         i += 2;
     }
     if i < samples.len() {
-        return put_pair(words, next, odd_end(samples[i]));
+        return put_word(words, next, odd_word(samples[i]));
     }
     next
 }

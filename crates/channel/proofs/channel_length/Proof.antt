@@ -1,23 +1,46 @@
 -- `channel::channel_length` meets its contract.
-use mathlib.Core.Path.{sym, _∙_}
+use mathlib.Core.Path.{_≡_, sym, ap, _∙_}
+use mathlib.Core.Bool.{true}
+use native.Mathlib.Omega.{arith}
 use borrow.Author.Needs.{needs}
+use borrow.Author.Tests.{ltb-true, ltb-false, not-true, not-false}
+use lib.ListN.{length}
+use Rattle.search.specs.Search.{tcFrom}
+use Rattle.finder.specs.Find.{searchable}
 use Rattle.finder.specs.FindLaws.{searched}
 use Rattle.channel.specs.Channel.{commonOf}
-use Rattle.channel.specs.InnerLaws.{length-channel}
+use Rattle.channel.specs.InnerLaws.{any-first, channel-quiet, length-channel}
 use Rattle.channel.proofs.channel_length.Statement.{statement}
 use Rattle.channel.proofs.channel_length.Tie as tie
 
-count-found-requires : tie.Need-count-found-requires
-count-found-requires c κs = searched _ _ _ (sym (c .before .can-search .ensures) ∙ c .if1 .taken)
-
 returns : tie.Need-returns
-returns c =
-    let a = c .before .before .before .before .args in
-    let asked = sym (c .before .before .can-search .ensures) ∙ c .before .if1 .taken in
-    rw asked (c .count-found .ensures ∙ sym (length-channel (commonOf (a .settings)) (a .threshold) 0 (a .row .now) (searched _ _ _ asked .some)))
+returns c = rw (sym (c .before .can-search .ensures) ∙ not-true _ (c .if1 .taken))
+
+-- where the second test is made
+module _ (c : tie.Else1) where
+  abbrev start : tie.Start
+  start = c .before .before .before
+
+  asked : searchable (length (start .args .row .now)) (start .args .settings .nsa) (start .args .settings .limit) ≡ true
+  asked = sym (c .before .can-search .ensures) ∙ not-false _ (c .if1 .left)
 
 returns-2 : tie.Need-returns-2
-returns-2 c = rw (sym (c .before .can-search .ensures) ∙ c .if1 .left)
+returns-2 c =
+    let e = c .before .before in
+    let a = start e .args in
+    let none : tcFrom (a .row .now) (a .threshold) 0 ≡ 0 = omega (arith, ltb-false 0 (tcFrom (a .row .now) (a .threshold) 0) (sym (any-first (a .row .now) (a .threshold)) ∙ sym (c .before .any-over .ensures) ∙ not-true _ (c .if2 .taken))) in
+    rw (asked e) (sym (ap length (channel-quiet (commonOf (a .settings)) (a .threshold) 0 (a .row .now) none)))
+
+count-found-requires : tie.Need-count-found-requires
+count-found-requires c κs =
+    let a = start (c .before .before) .args in
+    (searched _ _ _ (asked (c .before .before)), ltb-true 0 (tcFrom (a .row .now) (a .threshold) 0) (sym (any-first (a .row .now) (a .threshold)) ∙ sym (c .before .any-over .ensures) ∙ not-false _ (c .if2 .left)))
+
+returns-3 : tie.Need-returns-3
+returns-3 c =
+    let e = c .before .before .before in
+    let a = start e .args in
+    rw (asked e) (c .count-found .ensures ∙ sym (length-channel (commonOf (a .settings)) (a .threshold) 0 (a .row .now) (searched _ _ _ (asked e) .some)))
 
 pub channel-length-spec : {M : Type 1} → statement M
-channel-length-spec = tie.close (tie.spec (λ c κs. search needs) count-found-requires returns returns-2)
+channel-length-spec = tie.close (tie.spec (λ c κs. search needs) returns (λ c κs. search needs) returns-2 count-found-requires returns-3)

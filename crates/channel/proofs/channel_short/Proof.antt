@@ -15,10 +15,10 @@ returns : tie.Need-returns
 returns c =
     let s = c .before .before .before .before in
     let a = s .args in
-    let most : c .before .before .most-words .result ≡ modeMost (a .mode) (length (a .row .now)) = rw (le-leb _ _ (s .pre .short)) at (c .before .before .most-words .ensures) in
+    let most : c .before .before .most-words .result ≡ modeMost (a .mode) (length (a .row .now)) = rw (le-leb _ _ (s .pre .0 .short)) at (c .before .before .most-words .ensures) in
     let wide = ltb-false (a .room) (a .at + c .before .before .most-words .result) (sym (c .before .room-short .ensures) ∙ not-true _ (c .if1 .taken)) in
     let common : Common = record { mode = a .mode; nsb = a .nsb; nsa = a .nsa; limit = a .limit } in
-    sym (le-ltb (a .room) (a .at + channelLength common (a .threshold) (a .row .now)) (omega (arith, wide, most, channel-within common (a .threshold) (a .row .now) (s .pre))))
+    sym (le-ltb (a .room) (a .at + channelLength common (a .threshold) (a .row .now)) (omega (arith, wide, most, channel-within common (a .threshold) (a .row .now) (s .pre .0))))
 
 returns-2 : tie.Need-returns-2
 returns-2 c = rw (← c .before .count-found .ensures) (c .room-short2 .ensures)

@@ -13,17 +13,17 @@ use Rattle.channel.proofs.count_found.Tie as tie
 -- what is known once the finder has answered
 module _ (c : tie.After-pulses-of) where
   abbrev start : tie.Start
-  start = c .before .before .before .before .before
+  start = c .before .before .before .before
 
   common : Common
   common = record { mode = start .args .mode; nsb = start .args .nsb; nsa = start .args .nsa; limit = start .args .limit }
 
-  found : IsFound common (start .args .threshold) (start .args .row .now) (c .before .before .before .parts-of .result) (c .pulses-of .result)
+  found : IsFound common (start .args .threshold) (start .args .row .now) (c .before .before .parts-of .result) (c .pulses-of .result)
   unfolding common
-  found = is-found common _ _ _ _ (start .pre) (rw (c .before .limit-for .ensures) at (c .pulses-of .ensures))
+  found = is-found common _ _ _ _ (start .pre .0) (rw (c .before .limit-for .ensures) at (c .pulses-of .ensures))
 
 pulses-length-requires : tie.Need-pulses-length-requires
-pulses-length-requires c κs = (found (c .before) .inside, start (c .before) .pre .short)
+pulses-length-requires c κs = (found (c .before) .inside, start (c .before) .pre .0 .short)
 
 add-result : tie.Need-add-result
 add-result c =
@@ -33,7 +33,7 @@ add-result c =
       most-raw,
       most-pulse,
       c .before .run-length-if .ensures,
-      run-most (c .before .before .before .before .window-for .result) (length (s .args .row .now)) (s .pre .short),
+      run-most (c .before .before .before .before .parts-of .result .window) (length (s .args .row .now)) (s .pre .0 .short),
       c .pulses-length .ensures .1,
     )
 
@@ -41,14 +41,12 @@ returns : tie.Need-returns
 unfolding common
 returns c =
     let f = c .before .before in
-    channel-counted (common f) _ _ _ _ _ _ _ (f .before .before .before .parts-of .ensures) (f .before .before .window-for .ensures) (found f)
-    (c .before .run-length-if .ensures) (c .pulses-length .ensures .0)
+    channel-counted (common f) _ _ _ _ _ _ (start f .pre .1) (f .before .before .parts-of .ensures) (found f) (c .before .run-length-if .ensures) (c .pulses-length .ensures .0)
 
 pub count-found-spec : {M : Type 1} → statement M
 count-found-spec =
     tie.close
     (tie.spec
-    (λ c κs. search needs)
     (λ c κs. search needs)
     (λ c κs. search needs)
     (λ c κs. search needs)

@@ -1,4 +1,4 @@
--- `channel::put_found` meets its contract: nothing without a TC; else the window where the mode writes it, then the pulses.
+-- `channel::put_found` meets its contract: the window where the mode writes it, then the pulses.
 use Prim.Native.Nat.{_+_, _≤_}
 use mathlib.Core.Path.{_≡_}
 use mathlib.Core.Bool.{cond}
@@ -6,28 +6,21 @@ use mathlib.Core.List.{List, [], _++_}
 use native.Mathlib.Omega.{arith}
 use borrow.Author.Needs.{needs}
 use lib.ListN.{length}
-use Rattle.ground.specs.WritingLaws.{written-nil}
 use Rattle.finder.specs.Find.{pulsesFrom}
 use Rattle.items.specs.declared.Item.{Item}
 use Rattle.items.specs.ItemsLaws.{first-room, then-room, then-written}
 use Rattle.channel.specs.Channel.{Common, windowItems, pulsesItems, channelItems}
-use Rattle.channel.specs.InnerLaws.{search-less, channel-quiet, channel-busy}
+use Rattle.channel.specs.InnerLaws.{search-less, channel-busy}
 use Rattle.channel.proofs.put_found.Statement.{statement}
 use Rattle.channel.proofs.put_found.Tie as tie
 
 common : tie.Start → Common
 common s = record { mode = s .args .mode; nsb = s .args .nsb; nsa = s .args .nsa; limit = s .args .limit }
 
-returns : tie.Need-returns
-unfolding common
-returns c =
-    let s = c .before .before .before .before in
-    rw (channel-quiet (common s) (s .args .threshold) (s .args .channel) (s .args .row .now) _ (c .before .tc-from .ensures) (c .if1 .taken)) (written-nil _ _)
-
--- what is known where there is a TC
+-- what is known before the first word
 module _ (c : tie.After-limit-for) where
   abbrev start : tie.Start
-  start = c .before .before .before .before .before .before
+  start = c .before .before .before .before
 
   window : List Item
   window = cond (c .before .parts-of .result .window) (windowItems (start .args .channel) (start .args .row .now)) []
@@ -38,8 +31,8 @@ module _ (c : tie.After-limit-for) where
   are : channelItems (common start) (start .args .threshold) (start .args .channel) (start .args .row .now) ≡ window ++ pulses
   unfolding common window pulses
   are =
-      channel-busy (common start) (start .args .threshold) (start .args .channel) (start .args .row .now) (c .before .parts-of .result) _ _
-      (c .before .before .before .tc-from .ensures) (c .before .before .if1 .left) (c .before .parts-of .ensures) (c .limit-for .ensures)
+      channel-busy (common start) (start .args .threshold) (start .args .channel) (start .args .row .now) (c .before .parts-of .result) _
+      (rw (start .pre .0 .1) at (start .pre .0 .2)) (c .before .parts-of .ensures) (c .limit-for .ensures)
 
   room : start .args .at + length (window ++ pulses) ≤ length (start .args .words .now)
   unfolding common
@@ -49,17 +42,17 @@ put-window-if-requires : tie.Need-put-window-if-requires
 unfolding window
 put-window-if-requires c κs =
     let f = c .before in
-    (start f .pre .0 .short, first-room _ _ (window f) _ (room f))
+    (start f .pre .0 .0 .short, first-room _ _ (window f) _ (room f))
 
 put-pulses-requires : tie.Need-put-pulses-requires
 unfolding window pulses
 put-pulses-requires c κs =
     let f = c .before .before .before .before .before in
-    ((search-less (f .before .parts-of .result) _ _ _ _ (start f .pre .0) (f .limit-for .ensures), f .before .before .before .tc-from .ensures), then-room _ _ (window f) (pulses f) _ _ (room f) (c .before .before .before .put-window-if .ensures))
+    ((search-less (f .before .parts-of .result) _ _ _ _ (start f .pre .0 .0) (f .limit-for .ensures), start f .pre .0 .1), then-room _ _ (window f) (pulses f) _ _ (room f) (c .before .before .before .put-window-if .ensures))
 
-returns-2 : tie.Need-returns-2
+returns : tie.Need-returns
 unfolding common window pulses
-returns-2 c =
+returns c =
     let f = c .before .before .before .before .before .before .before .before in
     rw (are f)
     (then-written _ _ (window f) _ _ (pulses f) _ _ (omega (arith, room f)) (c .before .before .before .before .before .before .put-window-if .ensures) (c .before .before .put-pulses .ensures))
@@ -67,4 +60,4 @@ returns-2 c =
 pub put-found-spec : {M : Type 1} → statement M
 put-found-spec =
     tie.close
-    (tie.spec (λ c κs. tt) returns (λ c κs. tt) (λ c κs. tt) put-window-if-requires put-pulses-requires (λ c. search needs) returns-2)
+    (tie.spec (λ c κs. tt) (λ c κs. tt) put-window-if-requires put-pulses-requires (λ c. search needs) returns)

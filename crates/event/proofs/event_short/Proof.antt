@@ -1,26 +1,49 @@
--- `event::event_short` meets its contract: no event is longer than the longest.
-use mathlib.Core.Path.{sym, _∙_}
-use Prim.Native.Nat.{_+_}
+-- `event::event_short` meets its contract: no event is longer than the longest in its mode.
+use mathlib.Core.Path.{_≡_, sym, _∙_}
+use Prim.Native.Nat.{_+_, _*_, _≤_}
 use native.Mathlib.Omega.{arith}
 use borrow.Author.Needs.{needs}
-use borrow.Author.Tests.{ltb-false, le-ltb, not-true}
-use Rattle.limits.specs.Limits.{mostEvent}
-use Rattle.limits.specs.LimitsLaws.{most-event}
+use borrow.Author.Tests.{ltb-false, le-ltb, le-leb, not-true}
+use Rattle.limits.specs.LimitsLaws.{most-channel}
+use Rattle.settings.specs.RangesLaws.{settings-in-range}
+use Rattle.channel.specs.Inner.{modeMost}
+use Rattle.channel.specs.BoundLaws.{mode-most}
 use Rattle.event.specs.Inner.{eventLength}
-use Rattle.event.specs.EventLaws.{event-most}
+use Rattle.event.specs.EventLaws.{event-within}
 use Rattle.event.proofs.event_short.Statement.{statement}
 use Rattle.event.proofs.event_short.Tie as tie
 
+-- the longest channel
+module _ (c : tie.After-most-words) where
+  abbrev start : tie.Start
+  start = c .before .before .before
+
+  is : c .most-words .result ≡ modeMost (start .args .settings .mode) (start .args .settings .nw)
+  is = rw (le-leb _ _ (settings-in-range (start .args .settings) (start .pre .settings) .nw .1)) at (c .most-words .ensures)
+
+  small : c .most-words .result ≤ 753
+  small = omega (arith, is, most-channel, mode-most (start .args .settings .mode) (start .args .settings .nw) (settings-in-range (start .args .settings) (start .pre .settings) .nw .1))
+
 returns : tie.Need-returns
 returns c =
-    let s = c .before .before .before .before in
-    let a = s .args in
-    let wide = ltb-false (a .room) (a .at + mostEvent) (rw most-event (sym (c .before .room-short .ensures) ∙ not-true _ (c .if1 .taken))) in
+    let m = c .before .before in
+    let a = start m .args in
+    let wide = ltb-false (a .room) (a .at + (3 + 16 * m .most-words .result)) (sym (c .before .room-short .ensures) ∙ not-true _ (c .if1 .taken)) in
     sym (le-ltb (a .room) (a .at + eventLength (a .settings) (a .posted .now) (a .store .now))
-    (omega (arith, wide, event-most (a .settings) (a .posted .now) (a .store .now) (s .pre .settings) (s .pre .marks))))
+    (omega (arith, wide, is m, event-within (a .settings) (a .posted .now) (a .store .now) (start m .pre .settings) (start m .pre .marks))))
 
 returns-2 : tie.Need-returns-2
 returns-2 c = rw (← c .before .event-length .ensures) (c .room-short2 .ensures)
 
 pub event-short-spec : {M : Type 1} → statement M
-event-short-spec = tie.close (tie.spec (λ c κs. search needs) returns (λ c κs. search needs) (λ c κs. search needs) returns-2)
+event-short-spec =
+    tie.close
+    (tie.spec
+    (λ c κs. search needs)
+    (λ c. omega (arith, small c))
+    (λ c. omega (arith, small c))
+    (λ c κs. search needs)
+    returns
+    (λ c κs. search needs)
+    (λ c κs. search needs)
+    returns-2)

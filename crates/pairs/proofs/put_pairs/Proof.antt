@@ -32,9 +32,9 @@ pair n x y = I.Pair (record { nofirst = 0; first = x; nosecond = n; second = y }
 loop-holds : tie.Need-loop-holds Inv-loop μ-loop
 loop-holds c = (omega arith, left-all _ _ _)
 
-put-pair-requires : tie.Need-put-pair-requires Inv-loop μ-loop
+put-word-requires : tie.Need-put-word-requires Inv-loop μ-loop
 unfolding pair
-put-pair-requires c κs =
+put-word-requires c κs =
     let l = c .before .before .before .before .before in
     let a = l .before .before .before in
     let w = a .args .samples .now in
@@ -56,12 +56,12 @@ loop-again c =
       omega arith,
       loop-less (a .args .words .now) (a .args .at) (pairItems w) (a .pre) (l .loop .words) (l .loop .next) (x ∷ []) rest _ _
           (again _ _ w _ _ i (x ∷ rest) (pairs-two w i (omega arith)) (l .loop .inv .1))
-          (rw (c .before .before .before .pair-of .ensures) at (c .before .before .put-pair .ensures)),
+          (rw (c .before .before .before .pair-word .ensures) at (c .before .before .put-word .ensures)),
     )
 
-put-pair-requires-2 : tie.Need-put-pair-requires-2 Inv-loop μ-loop
+put-word-requires-2 : tie.Need-put-word-requires-2 Inv-loop μ-loop
 unfolding pair
-put-pair-requires-2 c κs =
+put-word-requires-2 c κs =
     let l = c .before .before .before .before .before in
     let a = l .before .before .before in
     let w = a .args .samples .now in
@@ -80,7 +80,7 @@ returns c =
     let x = pair 1 (getD w i 0) 0 in
     loop-last (a .args .words .now) (a .args .at) (pairItems w) (a .pre) (l .loop .words) (l .loop .next) (x ∷ []) _ _
     (again _ _ w _ _ i (x ∷ []) (pairs-one w i (omega arith) (omega arith)) (l .loop .inv .1))
-    (rw (c .before .before .before .odd-end .ensures) at (c .before .before .put-pair2 .ensures))
+    (rw (c .before .before .before .odd-word .ensures) at (c .before .before .put-word2 .ensures))
 
 returns-2 : tie.Need-returns-2 Inv-loop μ-loop
 returns-2 c =
@@ -91,7 +91,7 @@ returns-2 c =
     (again _ _ w _ _ (l .loop .i) [] (pairs-none w (l .loop .i) (omega arith)) (l .loop .inv .1))
 
 same-length : tie.Need-same-length Inv-loop μ-loop
-same-length c = c .before .before .put-pair2 .kept .0 ∙ c .before .before .before .before .before .before .before .before .loop .inv .1 .size
+same-length c = c .before .before .put-word2 .kept .0 ∙ c .before .before .before .before .before .before .before .before .loop .inv .1 .size
 
 same-length-2 : tie.Need-same-length-2 Inv-loop μ-loop
 same-length-2 c = c .before .before .loop .inv .1 .size
@@ -110,14 +110,14 @@ put-pairs-spec =
     (λ c. search needs)
     (λ c. omega arith)
     (λ c κs. tt)
-    put-pair-requires
+    put-word-requires
     (λ c. omega arith)
     (λ c. omega arith)
     loop-again
     (λ c. search needs)
     (λ c. omega arith)
     (λ c κs. tt)
-    put-pair-requires-2
+    put-word-requires-2
     same-length
     returns
     same-length-2
