@@ -40,8 +40,7 @@ pub fn find(settings: Settings, channel: usize, window: &[u16]) -> FindAnswer
         let found = finder::no_pulses();
         return FindAnswer { refusal, found };
     }
-    let thresholds = settings.thresholds;
-    let threshold = thresholds[channel];
+    let threshold = settings.thresholds[channel];
     let found = finder::pulses_of(
         window,
         threshold,

@@ -1,5 +1,5 @@
 -- The numbers that a call leaves are those of the state that it gives. Assumes nothing.
-use Prim.Native.Nat.{ℕ, _+_, _*_, _^_}
+use Prim.Native.Nat.{ℕ, _+_, _*_, _^_, _≤_}
 use mathlib.Core.Path.{_≡_, refl, sym, ap, ap₂, _∙_}
 use mathlib.Core.Bool.{Bool, true, false, cond}
 use mathlib.Core.List.{List, _++_}
@@ -24,14 +24,15 @@ use Rattle.writer.specs.declared.Answer.{Answer}
 use Rattle.writer.specs.declared.Finished.{Finished}
 use Rattle.writer.specs.Calls.{ifAccepted, SetUpSays, OpenBlockSays, OpenEventSays, rowStart, PostSays, CloseSays, FinishSays}
 use Rattle.refusing.specs.Tables.{setUpNumber, openBlockTable, openBlockNumber, openEventTable, openEventNumber, postTable, postNumber, closingItems, closeTable, closeNumber, finishTable, finishNumber}
+use Rattle.refusing.specs.TablesLaws.{post-accepted}
 use Rattle.block.specs.Block.{blockItems, endItems}
 use Rattle.writer.specs.CallsLaws.{done}
-use Rattle.numbers.specs.Numbers.{headCount, stateCount, isSettings, isState, settingsFrom, stateFrom, settingsOrNone, stateOrNone, settingsNumbers, headOf, numbersOf, headStored, stateStored}
-use Rattle.numbers.specs.NumbersLaws.{settings-count, state-count, state-settings-held}
+use Rattle.numbers.specs.Numbers.{marksAt, headCount, stateCount, isSettings, isState, settingsFrom, stateFrom, settingsOrNone, stateOrNone, settingsNumbers, headOf, numbersOf, headStored, stateStored}
+use Rattle.numbers.specs.NumbersLaws.{settings-count, state-count, state-settings-held, head-held}
 use Rattle.numbers.specs.StoreLaws.{head-over}
-use Rattle.numbers.specs.BackLaws.{settings-back}
+use Rattle.numbers.specs.BackLaws.{settings-back, event-stored, mark-stored}
 use Rattle.host.specs.Face.{onState, onSettings, orElse, blockOpened, posted, eventClosed, finishOn, inHigh, SetUpFace, OpenBlockFace, OpenEventFace, PostFace, CloseFace, FinishFace}
-use Rattle.host.specs.Inner.{Kept}
+use Rattle.host.specs.Inner.{Kept, opened, Unmarked, marked}
 
 -- the head of a state with these settings, over the numbers
 head-numbers : (n : List ℕ) (s : State) → isState n ≡ true → s .settings ≡ stateFrom n .settings → headStored n s ≡ numbersOf s
@@ -68,6 +69,27 @@ module _ (n : List ℕ) (number : State → ℕ) (none : number blank ≡ number
       go : (b : Bool) → isState n ≡ b → r ≡ number (cond b (stateFrom n) blank) → s ≡ cond b (stateFrom n) blank → ifAccepted r (headStored n u) n ≡ ifAccepted r (numbersOf (new (stateFrom n))) n
       go true e p q = put e (eqb r 0) (h ∙ ap₂ (λ (j : ℕ) (x : State). ifAccepted j (new x) x) (sym g) q)
       go false e p q = rw (p ∙ none)
+
+  -- only a state is accepted
+  call-accepted : r ≡ 0 → isState n ≡ true
+  call-accepted e = go (isState n) (sym e ∙ g ∙ ap number f)
+    where
+      go : (b : Bool) → 0 ≡ number (cond b (stateFrom n) blank) → b ≡ true
+      go true p = refl
+      go false p = absurd (omega (arith, p, none))
+
+  -- the same where what the call changes is put in place
+  call-placed : (new : State → State) (put : List ℕ) {n′ : List ℕ} → (isState n ≡ true → number (stateFrom n) ≡ 0 → numbersOf (new (stateFrom n)) ≡ put)
+      → n′ ≡ ifAccepted r put n → n′ ≡ ifAccepted r (numbersOf (new (stateFrom n))) n
+  call-placed new put same k = k ∙ go (isState n) refl (g ∙ ap number f)
+    where
+      placed : isState n ≡ true → (b : Bool) → eqb r 0 ≡ b → r ≡ number (stateFrom n) → cond b put n ≡ cond b (numbersOf (new (stateFrom n))) n
+      placed e true p q = sym (same e (sym q ∙ eqb-true r 0 p))
+      placed e false p q = refl
+
+      go : (b : Bool) → isState n ≡ b → r ≡ number (cond b (stateFrom n) blank) → ifAccepted r put n ≡ ifAccepted r (numbersOf (new (stateFrom n))) n
+      go true e p = placed e (eqb r 0) refl p
+      go false e p = rw (p ∙ none)
 
 -- the numbers of an answer, told by the number that C gets
 told : {n : List ℕ} {number : ℕ} {s : State} {r : ℕ} {n′ : List ℕ} → Kept n number s r n′ → n′ ≡ ifAccepted r (headStored n s) n
@@ -172,18 +194,18 @@ event-out : (event time : ℕ) → openEventNumber blank event time ≡ numberOf
 unfolding openEventNumber openEventTable firstOf
 event-out event time = rw blank-out
 
-event-same : (event time : ℕ) (s : State) → withEvent s event time .settings ≡ s .settings
-unfolding withEvent
-event-same event time s = refl
+pub event-room : (n : List ℕ) (event time : ℕ) {s : State} {a : Answer} → s ≡ stateOrNone n → OpenEventSays s event time a → numberOf (a .refusal) ≡ 0 → headCount ≤ length n
+event-room n event time f d e =
+    omega (arith, state-count n (call-accepted n (λ x. openEventNumber x event time) (event-out event time) f (d .refusal) e))
 
 pub open-event-face : (n : List ℕ) (event time : ℕ) {s : State} {a : Answer} {r : ℕ} {n′ : List ℕ} → s ≡ stateOrNone n
-    → OpenEventSays s event time a → Kept n (numberOf (a .refusal)) (a .state) r n′ → OpenEventFace n event time r n′
-open-event-face n event time f d k =
+    → OpenEventSays s event time a → r ≡ numberOf (a .refusal) → n′ ≡ ifAccepted r (opened n event time) n → OpenEventFace n event time r n′
+open-event-face n event time f d h k =
     let number : State → ℕ = λ x. openEventNumber x event time in
-    let g = k .answer ∙ d .refusal in
+    let g = h ∙ d .refusal in
     record {
       number = call-number n number (event-out event time) f g;
-      numbers = call-numbers n number (event-out event time) f g (λ (x : State). withEvent x event time) (event-same event time) (d .state) (told k);
+      numbers = call-placed n number (event-out event time) f g (λ (x : State). withEvent x event time) (opened n event time) (λ e o. event-stored n event time e) k;
     }
 
 -- ---- post a channel
@@ -192,18 +214,24 @@ mark-out : (room c : ℕ) (w : List ℕ) → postNumber blank room c w ≡ numbe
 unfolding postNumber postTable firstOf
 mark-out room c w = rw blank-out
 
-mark-same : (c : ℕ) (s : State) → posted s c .settings ≡ s .settings
-unfolding withMark
-mark-same c s = refl
+pub mark-room : (n store : List ℕ) (c : ℕ) (w : List ℕ) {s : State} {a : Answer} {store′ : List ℕ} → s ≡ stateOrNone n
+    → PostSays s store c w a store′ → numberOf (a .refusal) ≡ 0 → Unmarked n c
+mark-room n store c w f d e =
+    let state = call-accepted n (λ x. postNumber x (length store) c w) (mark-out (length store) c w) f (d .refusal) e in
+    let a = post-accepted _ (length store) c w (sym (d .refusal) ∙ e) in
+    record { long = omega (arith, state-count n state); small = omega (arith, head-held n state marksAt (omega arith)); channel = omega (arith, a .channel) }
 
 pub post-face : (n store : List ℕ) (c : ℕ) (w : List ℕ) {s : State} {a : Answer} {r : ℕ} {n′ store′ : List ℕ} → s ≡ stateOrNone n
-    → PostSays s store c w a store′ → Kept n (numberOf (a .refusal)) (a .state) r n′ → PostFace n store c w r n′ store′
-post-face n store c w f d k =
+    → PostSays s store c w a store′ → r ≡ numberOf (a .refusal) → n′ ≡ ifAccepted r (marked n c) n → PostFace n store c w r n′ store′
+post-face n store c w f d h k =
     let number : State → ℕ = λ x. postNumber x (length store) c w in
-    let g = k .answer ∙ d .refusal in
+    let g = h ∙ d .refusal in
     record {
       number = call-number n number (mark-out (length store) c w) f g;
-      numbers = call-numbers n number (mark-out (length store) c w) f g (λ (x : State). posted x c) (mark-same c) (d .state) (told k);
+      numbers =
+          call-placed n number (mark-out (length store) c w) f g (λ (x : State). posted x c) (marked n c)
+          (λ e o. (let a = post-accepted (stateFrom n) (length store) c w o in mark-stored n c e (omega (arith, a .channel)) (a .fresh)))
+          k;
       rows = call-lent n number (mark-out (length store) c w) f g (λ (x : State). splice store (rowStart x c) w) store (d .rows);
     }
 

@@ -1,15 +1,20 @@
 // The calls that C makes: the numbers are loaded, the call is made, and an accepted one stores them back. Numbers that are no
 // state are loaded as what stands for none, which the call refuses with 10.
 ghost use mathlib.Core.Path.{_≡_};
+ghost use Prim.Native.Nat.{_≤_};
+ghost use lib.ListN.{length};
+ghost use Rattle.numbers.specs.Numbers.{headCount};
 ghost use Rattle.refusals.specs.Refusal.{numberOf};
 ghost use Rattle.host.specs.Face.{SetUpFace, OpenBlockFace, OpenEventFace, PostFace, CloseFace, FinishFace, inHigh};
-ghost use Rattle.host.specs.Inner.{Kept};
+ghost use Rattle.host.specs.Inner.{Kept, opened, Unmarked, marked};
 use crate::or_bad_array;
 use numbers::load::settings_or_none;
 use numbers::load::state_or_none;
+use numbers::store::phase_number;
 use numbers::store::put_head;
 use numbers::store::put_state;
 use refusals::Refusal;
+use state::Phase;
 use state::State;
 use writer::Answer;
 
@@ -68,13 +73,36 @@ pub extern "C" fn fadc250_open_block(
     put_answer(state, answer)
 }
 
+// What an accepted opening changes of a state's numbers: the phase, the event's number and its time.
+fn put_event(numbers: &mut [u64], number: u32, time: u64)
+    requires { ⌜ headCount ≤ length (now numbers) ⌝ }
+    ensures { λ _. ⌜ now (numbers .exit) ≡ opened (now (numbers .entry)) number time ⌝ }
+{
+    numbers[numbers::PHASE] = phase_number(Phase::Event);
+    numbers[numbers::EVENT] = number as u64;
+    numbers[numbers::TIME] = time;
+}
+
 #[no_mangle]
 pub extern "C" fn fadc250_open_event(state: &mut [u64], number: u32, time: u64) -> u32
     ensures { λ r. ⌜ OpenEventFace (now (state .entry)) number time r (now (state .exit)) ⌝ }
 {
     let loaded = state_or_none(state);
     let answer = writer::open_event(loaded, number, time);
-    put_answer(state, answer)
+    let refusal = answer.refusal;
+    if refusals::accepted(refusal) {
+        put_event(state, number, time);
+        return 0;
+    }
+    refusals::number(refusal)
+}
+
+// What an accepted post changes of a state's numbers: the channel's bit, unset before, is set.
+fn put_mark(numbers: &mut [u64], channel: u32)
+    requires { ⌜ Unmarked (now numbers) channel ⌝ }
+    ensures { λ _. ⌜ now (numbers .exit) ≡ marked (now (numbers .entry)) channel ⌝ }
+{
+    numbers[numbers::MARKS] = numbers[numbers::MARKS] + (1 << channel);
 }
 
 #[no_mangle]
@@ -88,7 +116,12 @@ pub extern "C" fn fadc250_post(
 {
     let loaded = state_or_none(state);
     let answer = writer::post(loaded, store, channel as usize, window);
-    put_answer(state, answer)
+    let refusal = answer.refusal;
+    if refusals::accepted(refusal) {
+        put_mark(state, channel);
+        return 0;
+    }
+    refusals::number(refusal)
 }
 
 #[no_mangle]

@@ -3,19 +3,19 @@ use Prim.Native.Nat.{ℕ, zero, suc, _+_, _*_, _/_, _%_, _^_, _≤_, _<_}
 use mathlib.Core.Path.{_≡_, refl, sym, ap, ap₂, _∙_, subst}
 use mathlib.Core.Bool.{Bool, true, false, true≢false}
 use mathlib.Core.List.{List, [], _∷_, _++_}
-use native.Mathlib.Nat.{add-comm, mod-eq-of-lt}
+use native.Mathlib.Nat.{add-comm, mod-eq-of-lt, pow-suc}
 use native.Mathlib.Numerals.{add-one}
 use native.Mathlib.Omega.{arith}
 use borrow.Author.Tests.{eq-eqb, ne-eqb, eqb-true, le-leb}
 use lib.Dec.{eqb}
-use lib.ListN.{length, getD, take, drop, length-drop}
+use lib.ListN.{length, getD, set, take, drop, length-drop}
 use lib.Seq.{drop-cons, take-all}
 use lib.Pow.{shr-shr, mod-pow-add}
 use Rattle.limits.specs.LimitsLaws.{most-event}
 use Rattle.state.specs.declared.Phase.{Phase}
 use Rattle.state.specs.declared.Phase.the-variants.{Idle, Block, Event}
 use Rattle.state.specs.declared.State.{State}
-use Rattle.state.specs.State.{isIdle, isBlock, isEvent, stateOk}
+use Rattle.state.specs.State.{isIdle, isBlock, isEvent, stateOk, withEvent, withMark}
 use Rattle.state.specs.StateLaws.{idle-says, block-says, event-says, words-le}
 use Rattle.numbers.specs.Numbers.{parametersAt, thresholdsAt, most32, most64, settingsLimits, phaseAt, blockAt, eventsAt, eventAt, triggerTimeAt, marksAt, closedAt, wordsAt, headLimits, headCount, heldIn, isSettings, isState, settingsFrom, phaseFrom, table, marksFrom, stateFrom, markBit, settingsNumbers, phaseNumber, marksNumber, headOf, numbersOf}
 use Rattle.numbers.specs.NumbersLaws.{held-at, settings-count, marks-small, state-count, state-settings-held, head-held}
@@ -124,6 +124,30 @@ numbers-back n e =
     (marks-there 16 (at marksAt) ∙ mod-eq-of-lt marks)
     ∙ ap (λ (l : List ℕ). table at headCount 0 ++ l) (settings-back (drop headCount n) (state-settings-held n e))
     ∙ sym (from-place n headCount 0 (omega (arith, state-count n e)))
+
+-- ---- an event more, a mark more
+
+pub event-stored : (n : List ℕ) (event time : ℕ) → isState n ≡ true → numbersOf (withEvent (stateFrom n) event time) ≡ set (set (set n phaseAt (phaseNumber Event)) eventAt event) triggerTimeAt time
+unfolding numbersOf headOf withEvent
+event-stored n event time e = ap (λ (l : List ℕ). set (set (set l phaseAt (phaseNumber Event)) eventAt event) triggerTimeAt time) (numbers-back n e)
+
+-- a channel that is not marked, marked: its bit is added
+marks-more : (bs : List Bool) (c : ℕ) → c < length bs → getD bs c false ≡ false → marksNumber (set bs c true) ≡ marksNumber bs + 2 ^ c
+unfolding marksNumber
+marks-more [] c h e = absurd (omega arith)
+marks-more (b ∷ bs) zero h e = rw e (omega arith)
+marks-more (b ∷ bs) (suc c) h e = ap (λ (m : ℕ). markBit b + 2 * m) (marks-more bs c (omega arith) e) ∙ omega (arith, pow-suc 2 c)
+
+pub mark-stored : (n : List ℕ) (c : ℕ) → isState n ≡ true → c < 16 → getD (stateFrom n .posted) c false ≡ false
+    → numbersOf (withMark (stateFrom n) (set (stateFrom n .posted) c true)) ≡ set n marksAt (getD n marksAt 0 + 2 ^ c)
+unfolding numbersOf headOf stateFrom withMark marksFrom table
+mark-stored n c e h fresh =
+    let m = getD n marksAt 0 in
+    let small : m < 2 ^ 16 = omega (arith, head-held n e marksAt (omega arith)) in
+    let bit : marksNumber (set (marksFrom m) c true) ≡ m + 2 ^ c =
+    marks-more (marksFrom m) c h fresh ∙ ap (λ (k : ℕ). k + 2 ^ c) (marks-there 16 m ∙ mod-eq-of-lt small)
+    in
+    ap₂ (λ (l : List ℕ) (k : ℕ). set l marksAt k) (numbers-back n e) bit
 
 -- ---- the numbers of a state in its ranges are held
 

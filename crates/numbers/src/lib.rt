@@ -31,17 +31,17 @@ const CHANNELS: usize = 16;
 pub const SETTINGS: usize = THRESHOLDS + CHANNELS;
 
 // Where a state's own numbers stand, the head; the settings are behind them.
-const PHASE: usize = 0;
+pub const PHASE: usize = 0;
 
 const BLOCK: usize = 1;
 
 const EVENTS: usize = 2;
 
-const EVENT: usize = 3;
+pub const EVENT: usize = 3;
 
-const TIME: usize = 4;
+pub const TIME: usize = 4;
 
-const MARKS: usize = 5;
+pub const MARKS: usize = 5;
 
 const CLOSED: usize = 6;
 

@@ -9,7 +9,7 @@ use crate::STATE;
 use state::Phase;
 use state::State;
 
-fn phase_number(phase: Phase) -> u64
+pub fn phase_number(phase: Phase) -> u64
     ensures { λ r. ⌜ r ≡ phaseNumber phase ⌝ }
 {
     match phase {
