@@ -23,6 +23,15 @@ least-is : (p : ℕ → Bool) (s e j k : ℕ) → LeastSays p s e k → IsLeast 
 least-is p s e j zero r i = absurd (true≢false (sym (i .holds) ∙ r j (i .after) (i .within)))
 least-is p s e j (suc k) r i = least-one p s e j (suc k) i r
 
+up : (i j : ℕ) → i ≤ j → 10 ^ i ≤ 10 ^ j
+up i j z = pow-le-pow-right (lit< tt) z
+
+pub fewest-le : (n r : ℕ) → n < 2 ^ 64 → Fewest 10 1 n r → r ≤ 20
+fewest-le n r s w = omega (arith, short)
+  where
+    short : r < 21
+    short = lt-of-not-le (λ (z : 21 ≤ r). lt-irrefl n (lt-of-lt-of-le s (le-trans (lit≤ {m = 2 ^ 64} {n = 10 ^ 20} tt) (le-trans (up 20 (r - 1) (omega arith)) (w .2 (omega arith))))))
+
 pub decimal-is : (n r : ℕ) → n < 2 ^ 64 → Fewest 10 1 n r → digits 10 r n ≡ decimal n
 unfolding decimal placesOf
 decimal-is n r s w = ap (λ (k : ℕ). digits 10 k n) (least-is p 0 20 r (least p 0 20) (least-says p 0 20) fewest)
@@ -30,17 +39,11 @@ decimal-is n r s w = ap (λ (k : ℕ). digits 10 k n) (least-is p 0 20 r (least 
     p : ℕ → Bool
     p k = ltb n (10 ^ k)
 
-    up : (i j : ℕ) → i ≤ j → 10 ^ i ≤ 10 ^ j
-    up i j z = pow-le-pow-right (lit< tt) z
-
-    short : r < 21
-    short = lt-of-not-le (λ (z : 21 ≤ r). lt-irrefl n (lt-of-lt-of-le s (le-trans (lit≤ {m = 2 ^ 64} {n = 10 ^ 20} tt) (le-trans (up 20 (r - 1) (omega arith)) (w .2 (omega arith))))))
-
     fewest : IsLeast p 0 20 r
     fewest =
         record {
           after = w .0;
-          within = omega (arith, short);
+          within = fewest-le n r s w;
           holds = lt-ltb n (10 ^ r) (w .1);
           none = λ j a b. le-ltb n (10 ^ j) (le-trans (up j (r - 1) (omega arith)) (w .2 (omega arith)));
         }

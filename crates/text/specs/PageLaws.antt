@@ -8,8 +8,8 @@ use native.Mathlib.Nat.{zero-add}
 use native.Mathlib.Numerals.{add-one}
 use borrow.Author.Tests.{lt-ltb, le-ltb, ltb-true, ltb-false, le-leb, lt-leb}
 use lib.Dec.{leb, ltb}
-use lib.ListN.{length, drop, set, getD, length-set, drop-of-length-le}
-use lib.Seq.{set-out, drop-cons, sets, sets-eq}
+use lib.ListN.{length, take, drop, set, getD, length-set, drop-of-length-le}
+use lib.Seq.{set-out, take-at, drop-cons, sets, sets-eq}
 use Rattle.text.specs.Page.{Page, farthest, past, putByte, put}
 
 pub put-nil : (p : Page) → put p [] ≡ p
@@ -91,6 +91,13 @@ put-all l xs h k = as-sets l 0 xs (omega arith) ∙ sets-eq xs l 0 (omega arith)
 
 pub all-fits : (l all : List ℕ) (r : ℕ) (l′ : List ℕ) → length all ≤ length l → length l < farthest → _≡_ {A = Page} (l′, r) (put (l, 0) all) → (r ≡ min (length all) farthest) × (leb (length all) (length l) ≡ true) × (l′ ≡ all ++ drop (length all) l)
 all-fits l all r l′ h m g = (ap (λ (p : Page). p .1) g ∙ place-all l all, le-leb (length all) (length l) h, ap (λ (p : Page). p .0) g ∙ put-all l all h (omega arith))
+
+-- what was written aside, as far as it came
+pub aside : (l all l′ : List ℕ) (n : ℕ) → _≡_ {A = Page} (l′, n) (put (l, 0) all) → n ≤ length l → length l < farthest → take n l′ ≡ all
+aside l all l′ n e h m =
+    let count : n ≡ min (length all) farthest = ap (λ (p : Page). p .1) e ∙ place-all l all in
+    let size : n ≡ length all = omega arith in
+    ap (λ (p : Page). take n (p .0)) e ∙ ap (take n) (put-all l all (omega arith) (omega arith)) ∙ take-at all (drop (length all) l) n (sym size)
 
 -- ---- put on no page first, and so counted; then where all fits
 
