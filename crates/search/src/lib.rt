@@ -6,11 +6,10 @@ ghost use Rattle.ground.specs.Search.{least};
 ghost use Rattle.search.specs.Search.{ampAt, over, overIn, anyOver, nextTc, tcFrom, early};
 ghost use Rattle.search.specs.Chunk.{NoneHigher, Passed};
 
-// So many samples are looked at one by one before a chunk is: where pulses are many, the next one is near.
-const NEAR: usize = 16;
+// A small chunk is looked at one by one before a large one is: where pulses are many, the next one is near.
+const FEW: usize = 16;
 
-// The samples of a chunk.
-const CHUNK: usize = 64;
+const MANY: usize = 64;
 
 // Sample k is over the threshold.
 fn is_over(window: &[u16], threshold: u32, k: usize) -> bool
@@ -63,42 +62,46 @@ fn high_of(window: &[u16], k: usize, n: usize) -> u16
     high
 }
 
-// How far the search from s may go on at once: past chunks in which none is over. The last chunk may overlap the one before it.
-fn quiet_to(window: &[u16], threshold: u32, s: usize) -> usize
-    requires { ⌜ s ≤ length (now window) ⌝ }
+// How far the search from s may go on at once: past chunks of that size in which none is over. The last may overlap the one before it.
+fn quiet_to(window: &[u16], threshold: u32, s: usize, size: usize) -> usize
+    requires { ⌜ (s ≤ length (now window)) × (1 ≤ size) ⌝ }
     ensures { λ r. ⌜ Passed (over (now (window .entry)) threshold) s (length (now (window .entry))) r ⌝ }
 {
     let n = window.len();
-    if n < CHUNK {
+    if n < size {
         return s;
     }
-    let last = n - CHUNK;
+    let last = n - size;
     let mut k = s;
     while k < last {
-        if threshold < high_of(window, k, CHUNK) as u32 {
+        if threshold < high_of(window, k, size) as u32 {
             return k;
         }
-        k += CHUNK;
+        k += size;
     }
-    if threshold < high_of(window, last, CHUNK) as u32 {
+    if threshold < high_of(window, last, size) as u32 {
         return k;
     }
     n
 }
 
-// The first sample after s that is over.
+// The first sample after s that is over: a few samples one by one, then large chunks, then small ones.
 fn over_after(window: &[u16], threshold: u32, s: usize) -> usize
     requires { ⌜ s ≤ length (now window) ⌝ }
     ensures { λ r. ⌜ r ≡ least (over (now (window .entry)) threshold) s (length (now (window .entry))) ⌝ }
 {
     let n = window.len();
     let mut k = s;
-    while NEAR <= n - k {
-        let found = first_over(window, threshold, k, NEAR);
+    while FEW <= n - k {
+        let found = first_over(window, threshold, k, FEW);
         if found != 0 {
             return found;
         }
-        k = quiet_to(window, threshold, k + NEAR);
+        let far = quiet_to(window, threshold, k + FEW, MANY);
+        if far == n {
+            return 0;
+        }
+        k = quiet_to(window, threshold, far, FEW);
     }
     first_over(window, threshold, k, n - k)
 }
