@@ -3,12 +3,13 @@ ghost use mathlib.Core.Path.{_≡_};
 ghost use Prim.Native.Nat.{_+_, _≤_};
 ghost use lib.ListN.{length};
 ghost use Rattle.ground.specs.Search.{least};
-ghost use Rattle.search.specs.Search.{ampAt, over, overIn, anyOver, nextTc, tcFrom, early};
+ghost use Rattle.search.specs.Search.{ampAt, over, anyOver, nextTc, tcFrom, early};
 ghost use Rattle.search.specs.Chunk.{NoneHigher, Passed};
 
-// A small chunk is looked at one by one before a large one is: where pulses are many, the next one is near.
+// The samples of a small chunk. A search begins with so many one by one: where pulses are many, the next one is near.
 const FEW: usize = 16;
 
+// The samples of a large chunk.
 const MANY: usize = 64;
 
 // Sample k is over the threshold.
@@ -34,7 +35,7 @@ fn first_over(window: &[u16], threshold: u32, s: usize, n: usize) -> usize
     0
 }
 
-// An amplitude as narrow as a sample: eight are then compared at once.
+// The amplitude of sample k, no wider than the sample is.
 fn amplitude_at(window: &[u16], k: usize) -> u16
     requires { ⌜ (1 ≤ k) × (k ≤ length (now window)) ⌝ }
     ensures { λ r. ⌜ r ≡ ampAt (now (window .entry)) k ⌝ }
@@ -48,7 +49,7 @@ fn higher(a: u16, b: u16) -> u16
     if a < b { b } else { a }
 }
 
-// None of the n samples after k is higher. No early way out: where n is known, they are looked at together.
+// None of the n samples after k is higher. No early way out: where n is known, eight are compared at once.
 fn high_of(window: &[u16], k: usize, n: usize) -> u16
     requires { ⌜ k + n ≤ length (now window) ⌝ }
     ensures { λ r. ⌜ NoneHigher (now (window .entry)) k n r ⌝ }
