@@ -25,7 +25,7 @@ pub fn over(threshold: u32, sample: u16) -> bool
 // The samples that are looked at together.
 const CHUNK: usize = 64;
 
-// No sample of the part is over the greatest. No early way out: where the length is known, its samples are looked at together.
+// No sample of the part is over the greatest. No early way out: many are tested at once, most where the length is known.
 fn part_ok(part: &[u16]) -> bool
     ensures { λ r. ⌜ r ≡ samplesOk (now (part .entry)) ⌝ }
 {

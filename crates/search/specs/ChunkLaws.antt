@@ -25,20 +25,28 @@ least-to p s r e l m f =
     let z : r ≡ s + (r - s) = omega arith in
     rw z (pass-by p s (r - s) e (omega arith) (λ j a b. f j a (omega arith)))
 
+-- ---- a search that goes on
+
 pub passed-none : (p : ℕ → Bool) (s e : ℕ) → s ≤ e → Passed p s e s
 passed-none p s e l = record { from = omega arith; to = l; same = refl }
 
--- ---- the samples looked at one by one: one is found, or none is
+pub passed-then : (p : ℕ → Bool) (s e k m : ℕ) → Passed p s e k → Passed p k e m → Passed p s e m
+passed-then p s e k m i j = record { from = omega arith; to = j .to; same = i .same ∙ j .same }
 
-pub near-found : (p : ℕ → Bool) (s k m e r : ℕ) → Passed p s e k → r ≡ least p k m → (r ≡ 0 → ⊥) → m ≤ e → r ≡ least p s e
-near-found p s k m e r i h g l =
+pub passed-all : (p : ℕ → Bool) (s e k : ℕ) → Passed p s e k → e ≤ k → 0 ≡ least p s e
+passed-all p s e k i l = sym (i .same ∙ least-end p k e l)
+
+-- ---- samples looked at one by one: one is found, or none is
+
+pub one-found : (p : ℕ → Bool) (s k m e r : ℕ) → Passed p s e k → r ≡ least p k m → (r ≡ 0 → ⊥) → m ≤ e → r ≡ least p s e
+one-found p s k m e r i h g l =
     let f : IsLeast p k m r = least-found p k m r h (omega arith) in
     let z : r - 1 + 1 ≡ r = omega arith in
     let before = least-to p k (r - 1) e (omega arith) (omega arith) (λ j a b. f .none j a (omega arith)) in
     sym (i .same ∙ (before ∙ (least-here p (r - 1) e (omega arith) (rw z (f .holds)) ∙ z)))
 
-pub near-none : (p : ℕ → Bool) (s k m e r q : ℕ) → Passed p s e k → r ≡ least p k m → r ≡ 0 → k ≤ m → Passed p m e q → Passed p s e q
-near-none p s k m e r q i h z l n =
+pub none-found : (p : ℕ → Bool) (s k m e r q : ℕ) → Passed p s e k → r ≡ least p k m → r ≡ 0 → k ≤ m → Passed p m e q → Passed p s e q
+none-found p s k m e r q i h z l n =
     let pass = least-to p k m e l (omega arith) (least-none p k m (sym h ∙ z)) in
     record { from = omega arith; to = n .to; same = i .same ∙ (pass ∙ n .same) }
 

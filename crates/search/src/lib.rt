@@ -3,14 +3,14 @@ ghost use mathlib.Core.Path.{_≡_};
 ghost use Prim.Native.Nat.{_+_, _≤_};
 ghost use lib.ListN.{length};
 ghost use Rattle.ground.specs.Search.{least};
-ghost use Rattle.search.specs.Search.{ampAt, over, overIn, anyOver, nextTc, tcFrom, early};
+ghost use Rattle.search.specs.Search.{ampAt, over, anyOver, nextTc, tcFrom, early};
 ghost use Rattle.search.specs.Chunk.{NoneHigher, Passed};
 
-// So many samples are looked at one by one before a chunk is: where pulses are many, the next one is near.
-const NEAR: usize = 16;
+// The samples of a small chunk. A search begins with so many one by one: where pulses are many, the next one is near.
+const FEW: usize = 16;
 
-// The samples of a chunk.
-const CHUNK: usize = 64;
+// The samples of a large chunk.
+const MANY: usize = 64;
 
 // Sample k is over the threshold.
 fn is_over(window: &[u16], threshold: u32, k: usize) -> bool
@@ -35,7 +35,7 @@ fn first_over(window: &[u16], threshold: u32, s: usize, n: usize) -> usize
     0
 }
 
-// An amplitude as narrow as a sample: eight are then compared at once.
+// The amplitude of sample k, no wider than the sample is.
 fn amplitude_at(window: &[u16], k: usize) -> u16
     requires { ⌜ (1 ≤ k) × (k ≤ length (now window)) ⌝ }
     ensures { λ r. ⌜ r ≡ ampAt (now (window .entry)) k ⌝ }
@@ -49,7 +49,7 @@ fn higher(a: u16, b: u16) -> u16
     if a < b { b } else { a }
 }
 
-// None of the n samples after k is higher. No early way out: where n is known, they are looked at together.
+// None of the n samples after k is higher. No early way out: where n is known, eight are compared at once.
 fn high_of(window: &[u16], k: usize, n: usize) -> u16
     requires { ⌜ k + n ≤ length (now window) ⌝ }
     ensures { λ r. ⌜ NoneHigher (now (window .entry)) k n r ⌝ }
@@ -63,42 +63,46 @@ fn high_of(window: &[u16], k: usize, n: usize) -> u16
     high
 }
 
-// How far the search from s may go on at once: past chunks in which none is over. The last chunk may overlap the one before it.
-fn quiet_to(window: &[u16], threshold: u32, s: usize) -> usize
-    requires { ⌜ s ≤ length (now window) ⌝ }
+// How far the search from s may go on at once: past chunks of that size in which none is over. The last may overlap the one before it.
+fn quiet_to(window: &[u16], threshold: u32, s: usize, size: usize) -> usize
+    requires { ⌜ (s ≤ length (now window)) × (1 ≤ size) ⌝ }
     ensures { λ r. ⌜ Passed (over (now (window .entry)) threshold) s (length (now (window .entry))) r ⌝ }
 {
     let n = window.len();
-    if n < CHUNK {
+    if n < size {
         return s;
     }
-    let last = n - CHUNK;
+    let last = n - size;
     let mut k = s;
     while k < last {
-        if threshold < high_of(window, k, CHUNK) as u32 {
+        if threshold < high_of(window, k, size) as u32 {
             return k;
         }
-        k += CHUNK;
+        k += size;
     }
-    if threshold < high_of(window, last, CHUNK) as u32 {
+    if threshold < high_of(window, last, size) as u32 {
         return k;
     }
     n
 }
 
-// The first sample after s that is over.
+// The first sample after s that is over: a few samples one by one, then large chunks, then small ones.
 fn over_after(window: &[u16], threshold: u32, s: usize) -> usize
     requires { ⌜ s ≤ length (now window) ⌝ }
     ensures { λ r. ⌜ r ≡ least (over (now (window .entry)) threshold) s (length (now (window .entry))) ⌝ }
 {
     let n = window.len();
     let mut k = s;
-    while NEAR <= n - k {
-        let found = first_over(window, threshold, k, NEAR);
+    while FEW <= n - k {
+        let found = first_over(window, threshold, k, FEW);
         if found != 0 {
             return found;
         }
-        k = quiet_to(window, threshold, k + NEAR);
+        let far = quiet_to(window, threshold, k + FEW, MANY);
+        if far == n {
+            return 0;
+        }
+        k = quiet_to(window, threshold, far, FEW);
     }
     first_over(window, threshold, k, n - k)
 }

@@ -6,7 +6,7 @@ use borrow.Author.Needs.{needs}
 use lib.ListN.{length}
 use Rattle.search.specs.Search.{over}
 use Rattle.search.specs.Chunk.{Passed}
-use Rattle.search.specs.ChunkLaws.{passed-none, near-found, near-none}
+use Rattle.search.specs.ChunkLaws.{passed-none, passed-then, passed-all, one-found, none-found}
 use Rattle.search.proofs.over_after.Statement.{statement}
 use Rattle.search.proofs.over_after.Tie as tie
 
@@ -20,14 +20,20 @@ loop-holds : tie.Need-loop-holds Inv-loop μ-loop
 loop-holds c = passed-none _ _ _ (search needs)
 
 returns : tie.Need-returns Inv-loop μ-loop
-returns c = near-found _ _ _ _ _ _ (c .before .before .before .loop .inv) (c .before .first-over .ensures) (c .if1 .taken) (omega arith)
-
-loop-again : tie.Need-loop-again Inv-loop μ-loop
-loop-again c =
-    near-none _ _ _ _ _ _ _ (c .before .before .before .before .loop .inv) (c .before .before .first-over .ensures) (c .before .if1 .left) (omega arith) (c .quiet-to .ensures)
+returns c = one-found _ _ _ _ _ _ (c .before .before .before .loop .inv) (c .before .first-over .ensures) (c .if1 .taken) (omega arith)
 
 returns-2 : tie.Need-returns-2 Inv-loop μ-loop
 returns-2 c =
+    let few = none-found _ _ _ _ _ _ _ (c .before .before .before .before .before .loop .inv) (c .before .before .before .first-over .ensures) in
+    passed-all _ _ _ _ (few (c .before .before .if1 .left) (omega arith) (c .before .quiet-to .ensures)) (omega arith)
+
+loop-again : tie.Need-loop-again Inv-loop μ-loop
+loop-again c =
+    let few = none-found _ _ _ _ _ _ _ (c .before .before .before .before .before .before .loop .inv) (c .before .before .before .before .first-over .ensures) in
+    passed-then _ _ _ _ _ (few (c .before .before .before .if1 .left) (omega arith) (c .before .before .quiet-to .ensures)) (c .quiet-to2 .ensures)
+
+returns-3 : tie.Need-returns-3 Inv-loop μ-loop
+returns-3 c =
     let head = c .before .before .loop in
     let n = length (c .before .before .before .before .args .window .now) in
     let z : head .k + (n - head .k) ≡ n = omega arith in
@@ -45,8 +51,10 @@ over-after-spec =
     returns
     (λ c. search needs)
     (λ c κs. search needs)
+    returns-2
+    (λ c κs. search needs)
     (λ c. search needs)
     loop-again
     (λ c. search needs)
     (λ c κs. search needs)
-    returns-2)
+    returns-3)

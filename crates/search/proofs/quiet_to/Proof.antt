@@ -9,10 +9,10 @@ use Rattle.search.proofs.quiet_to.Statement.{statement}
 use Rattle.search.proofs.quiet_to.Tie as tie
 
 abbrev Inv-loop : tie.InvT-loop
-Inv-loop window threshold s n last k₀ k = Passed (over window threshold) s n k
+Inv-loop window threshold s size n last k₀ k = Passed (over window threshold) s n k
 
 abbrev μ-loop : tie.MeasureT-loop
-μ-loop window threshold s n last k₀ k = n - k
+μ-loop window threshold s size n last k₀ k = n - k
 
 returns : tie.Need-returns Inv-loop μ-loop
 returns c = passed-none _ _ _ (search needs)
