@@ -1,11 +1,10 @@
 // The check of an event's items many words at a time: measures, and windows of samples. Whatever else stands there is left to
 // the reader's step of one word, and so is every refusal.
 ghost use mathlib.Core.Path.{_≡_};
-ghost use mathlib.Core.Bool.{true};
 ghost use Prim.Native.Nat.{_+_, _*_, _≤_, _<_, min};
 ghost use lib.ListN.{length, getD};
 ghost use Rattle.fields.specs.Bytes.{wordsOfBytes};
-ghost use Rattle.runs.specs.Runs.{turnedAt, eventHead, Passed, PassedTo, Onward};
+ghost use Rattle.runs.specs.Runs.{turnedAt, headSize, Passed, HeadTo, PassedTo, Onward};
 use framing::event_header::EventHeader;
 use framing::trailer::BlockTrailer;
 use framing::trigger_time::TriggerTime;
@@ -81,7 +80,10 @@ fn item_end(bytes: &[u8], k: usize, end: usize) -> usize
     if sets::is_raw(word) {
         return sets::raw_end(bytes, k, end);
     }
-    measured::measured_end(bytes, k, end)
+    if measured::measure_at(bytes, k) {
+        return measured::measured_end(bytes, k + 1, end);
+    }
+    k
 }
 
 fn items_end(bytes: &[u8], from: usize, end: usize) -> usize
@@ -99,31 +101,42 @@ fn items_end(bytes: &[u8], from: usize, end: usize) -> usize
     k
 }
 
-// An event header of that slot and its two time words.
-fn is_head(slot: u32, head: u32, low: u32, high: u32) -> bool
-    ensures { λ r. ⌜ r ≡ eventHead slot head low high ⌝ }
+// How many words an event's head has, by the two behind its header: a defining word shows that no more come. 0 where they are
+// left to the reader.
+fn head_size(low: u32, high: u32) -> usize
+    ensures { λ r. ⌜ (r ≤ 3) × (r ≡ headSize low high) ⌝ }
 {
-    EventHeader::is(head)
-        & (fields::take(head, 22, 5) == slot)
-        & TriggerTime::is(low)
-        & TriggerTimeHigh::is(high)
-        & TriggerTimeHigh::fixed(high)
-        & (fields::take(high, 0, 24) % 8 == fields::take(low, 24, 3))
+    if TriggerTimeHigh::is(low) {
+        return 0;
+    }
+    if !TriggerTime::is(low) {
+        return 1;
+    }
+    if !TriggerTimeHigh::is(high) {
+        return 2;
+    }
+    let same = fields::take(high, 0, 24) % 8 == fields::take(low, 24, 3);
+    if TriggerTimeHigh::fixed(high) & same {
+        3
+    } else {
+        0
+    }
 }
 
-fn head_at(bytes: &[u8], k: usize, end: usize, slot: u32) -> bool
+// Behind the head of an event of that slot that stands here, or here.
+fn head_end(bytes: &[u8], k: usize, end: usize, slot: u32) -> usize
     requires { ⌜ (k ≤ end) × (4 * end ≤ length (now bytes)) ⌝ }
-    ensures { λ r. ⌜ (r ≡ true → (k + 3 ≤ end) × (eventHead slot (getD (wordsOfBytes (now (bytes .entry))) k 0) (getD (wordsOfBytes (now (bytes .entry))) (k + 1) 0) (getD (wordsOfBytes (now (bytes .entry))) (k + 2) 0) ≡ true)) ⌝ }
+    ensures { λ r. ⌜ (r ≤ end) × HeadTo (wordsOfBytes (now (bytes .entry))) slot k r ⌝ }
 {
     if end - k < 3 {
-        return false;
+        return k;
     }
-    is_head(
-        slot,
-        joined_at(bytes, k),
-        joined_at(bytes, k + 1),
-        joined_at(bytes, k + 2),
-    )
+    let head = joined_at(bytes, k);
+    if EventHeader::is(head) & (fields::take(head, 22, 5) == slot) {
+        k + head_size(joined_at(bytes, k + 1), joined_at(bytes, k + 2))
+    } else {
+        k
+    }
 }
 
 // The items that stand here, and event by event as long as the head of one is passed.
@@ -134,10 +147,11 @@ fn events_end(bytes: &[u8], from: usize, end: usize, slot: u32, left: u32) -> Ev
     let mut k = items_end(bytes, from, end);
     let mut n = left;
     while 0 < n {
-        if !head_at(bytes, k, end, slot) {
+        let next = head_end(bytes, k, end, slot);
+        if next == k {
             return Events { next: k, left: n };
         }
-        k = items_end(bytes, k + 3, end);
+        k = items_end(bytes, next, end);
         n -= 1;
     }
     Events { next: k, left: n }

@@ -7,7 +7,7 @@ ghost use Rattle.fields.specs.Bytes.{wordsOfBytes};
 ghost use Rattle.runs.specs.Runs.{measure, All};
 
 // Bit 31 and the type stand in the first byte; a time's zero bits beside them, and on top of the third.
-fn measure_at(bytes: &[u8], k: usize) -> bool
+pub(crate) fn measure_at(bytes: &[u8], k: usize) -> bool
     requires { ⌜ 4 * k + 4 ≤ length (now bytes) ⌝ }
     ensures { λ r. ⌜ (r ≡ true → measure (getD (wordsOfBytes (now (bytes .entry))) k 0) ≡ true) ⌝ }
 {

@@ -2,11 +2,9 @@
 use Prim.Native.Nat.{_≤_}
 use native.Mathlib.Omega.{arith}
 use borrow.Author.Needs.{needs}
-use borrow.Author.Tests.{not-false}
 use Rattle.fields.specs.Bytes.{wordsOfBytes}
 use Rattle.runs.specs.Runs.{PassedTo}
-use Rattle.runs.specs.WordsLaws.{words-count}
-use Rattle.runs.specs.RunsLaws.{items-passed, events-more, event-run}
+use Rattle.runs.specs.RunsLaws.{items-passed, events-more}
 use Rattle.runs.proofs.events_end.Statement.{statement}
 use Rattle.runs.proofs.events_end.Tie as tie
 
@@ -22,24 +20,14 @@ loop-holds c = (c .items-end .ensures .0, items-passed (c .items-end .ensures .1
 returns : tie.Need-returns Inv-loop μ-loop
 returns c = c .before .before .before .loop .inv
 
--- a head stands here
-add-items-end : tie.Need-add-items-end Inv-loop μ-loop
-add-items-end c = omega (arith, c .before .head-at .ensures (not-false _ (c .if1 .left)) .0)
-
-items-end-requires-2 : tie.Need-items-end-requires-2 Inv-loop μ-loop
-items-end-requires-2 c κs = omega (arith, c .before .head-at .ensures (not-false _ (c .if1 .left)) .0)
-
 loop-again : tie.Need-loop-again Inv-loop μ-loop
 loop-again c =
-    let head = c .before .before .head-at .ensures (not-false _ (c .before .if1 .left)) in
-    let bytes = c .before .before .before .before .before .before .before .args .bytes .now in (
-      c .items-end2 .ensures .0,
-      events-more (c .before .before .before .before .loop .inv .1)
-          (events-more (event-run (head .1) (omega arith) (omega (arith, head .0, words-count bytes))) (items-passed (c .items-end2 .ensures .1))),
-    )
+    let head = c .before .before .head-end .ensures .1 in
+    let l = c .before .before .before .before .loop in
+    (c .items-end2 .ensures .0, events-more (l .inv .1) (events-more (head .event (omega (arith, head .ahead)) (l .n) (omega arith)) (items-passed (c .items-end2 .ensures .1))))
 
 returns-2 : tie.Need-returns-2 Inv-loop μ-loop
 returns-2 c = c .before .loop .inv
 
 pub events-end-spec : {M : Type 1} → statement M
-events-end-spec = tie.close (tie.spec Inv-loop μ-loop (λ c κs. search needs) loop-holds (λ c κs. search needs) returns add-items-end items-end-requires-2 (λ c. search needs) (λ c. search needs) loop-again returns-2)
+events-end-spec = tie.close (tie.spec Inv-loop μ-loop (λ c κs. search needs) loop-holds (λ c κs. search needs) returns (λ c κs. search needs) (λ c. search needs) (λ c. search needs) loop-again returns-2)
