@@ -3,7 +3,7 @@
 use Prim.Native.Nat.{ℕ, _+_, _-_, _*_, _%_, _≤_, _<_}
 use mathlib.Core.Path.{_≡_}
 use mathlib.Core.Bool.{Bool, true, not, cond, _&&_, _||_}
-use mathlib.Core.List.{List}
+use mathlib.Core.List.{List, _∷_}
 use lib.Dec.{eqb}
 use lib.ListN.{length, getD, drop}
 use Rattle.fields.specs.Word.{read}
@@ -63,6 +63,10 @@ pub record All (p : ℕ → Bool) (words : List ℕ) (k r : ℕ) : Type 0 where
 
 abbrev pub standing : ℕ → ℕ → ℕ → Stage → Scan
 standing place slot left stage = record { place = place; slot = slot; left = left; stage = stage }
+
+-- this word stands as behind an item
+pub record Behind (s : Scan) (word : ℕ) : Type 0 where
+  pub same : (words : List ℕ) → checkFrom s (word ∷ words) ≡ checkFrom (standing (s .place) (s .slot) (s .left) P.Items) (word ∷ words)
 
 -- behind an item at k, as behind an item at r, where no word between stands at the limit
 pub record Passed (words : List ℕ) (k r : ℕ) : Type 0 where

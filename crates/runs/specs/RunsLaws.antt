@@ -18,7 +18,7 @@ use Rattle.scan.specs.declared.Stage.the-variants as P
 use Rattle.scan.specs.declared.Scan.{Scan}
 use Rattle.reader.specs.Reader.{checkFrom}
 use Rattle.reader.specs.RunLaws.{cons-at}
-use Rattle.runs.specs.Runs.{plain, single, measure, windowHead, rawHead, headSize, All, standing, Passed, PassedTo, HeadTo}
+use Rattle.runs.specs.Runs.{plain, single, measure, windowHead, rawHead, headSize, All, standing, Behind, Passed, PassedTo, HeadTo}
 use Rattle.runs.specs.StepsLaws.{measure-passed, window-passed, raw-passed, event-passed, clock-passed, high-passed, plain-passed, plain-raw, single-passed, single-raw, raw-end, timed-end, opened-end}
 
 -- nothing passed, and one run behind another
@@ -290,11 +290,27 @@ module _ (words : List ℕ) (slot k left : ℕ) (some : 1 ≤ left) (head : isDe
       go false true true true i j m o e = rw e (head-high l j m (and-left _ (eqb (read 23 0 high % 8) (read 26 24 low)) o) (eqb-true _ _ (and-right (triggerTimeHighFixed high) _ o)))
       go false true true false i j m o e = absurd (omega arith)
 
--- ---- the scan behind them
+-- ---- the scan that they begin at, and the one behind them
 
-pub onward-by : {words : List ℕ} {k r rest : ℕ} (s : Scan) {t : Scan} → s .stage ≡ P.Items → PassedTo words (s .slot) k (s .left) r rest → s .place + (r - k) ≤ 4194303
-    → t ≡ standing (s .place + (r - k)) (s .slot) rest P.Items → checkFrom s (drop k words) ≡ checkFrom t (drop r words)
-onward-by {words} {k} {r} s e a h i =
-    ap (λ (p : Stage). checkFrom (standing (s .place) (s .slot) (s .left) p) (drop k words)) e
+by-stage : (s : Scan) (word : ℕ) {p : Stage} → s .stage ≡ p
+    → ((words : List ℕ) → checkFrom (standing (s .place) (s .slot) (s .left) p) (word ∷ words) ≡ checkFrom (standing (s .place) (s .slot) (s .left) P.Items) (word ∷ words))
+    → Behind s word
+by-stage s word e f = record { same = λ words. ap (λ (q : Stage). checkFrom (standing (s .place) (s .slot) (s .left) q) (word ∷ words)) e ∙ f words }
+
+pub behind-item : (s : Scan) (word : ℕ) → s .stage ≡ P.Items → Behind s word
+behind-item s word e = by-stage s word e (λ words. refl)
+
+pub behind-header : (s : Scan) (word : ℕ) → s .stage ≡ P.Opened → isContinuation word ≡ false → isDefining 3 word ≡ false → Behind s word
+behind-header s word e d n = by-stage s word e (λ words. opened-end (s .place) (s .slot) (s .left) word words d n)
+
+pub behind-time : (s : Scan) (word : ℕ) {middle : ℕ} → s .stage ≡ P.Timed middle → isContinuation word ≡ false → Behind s word
+behind-time s word {middle} e d = by-stage s word e (λ words. timed-end (s .place) (s .slot) (s .left) word words d middle)
+
+pub onward-by : {words : List ℕ} {k r rest : ℕ} (s : Scan) {t : Scan} → k < length words → Behind s (getD words k 0) → PassedTo words (s .slot) k (s .left) r rest
+    → s .place + (r - k) ≤ 4194303 → t ≡ standing (s .place + (r - k)) (s .slot) rest P.Items → checkFrom s (drop k words) ≡ checkFrom t (drop r words)
+onward-by {words} {k} {r} s l b a h i =
+    at-word words k s l
+    ∙ b .same (drop (k + 1) words)
+    ∙ sym (at-word words k (standing (s .place) (s .slot) (s .left) P.Items) l)
     ∙ a .same (s .place) h
     ∙ ap (λ (u : Scan). checkFrom u (drop r words)) (sym i)

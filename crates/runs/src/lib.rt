@@ -1,10 +1,11 @@
 // The check of an event's items many words at a time: measures, and windows of samples. Whatever else stands there is left to
 // the reader's step of one word, and so is every refusal.
 ghost use mathlib.Core.Path.{_≡_};
+ghost use mathlib.Core.Bool.{true};
 ghost use Prim.Native.Nat.{_+_, _*_, _≤_, _<_, min};
 ghost use lib.ListN.{length, getD};
 ghost use Rattle.fields.specs.Bytes.{wordsOfBytes};
-ghost use Rattle.runs.specs.Runs.{turnedAt, headSize, Passed, HeadTo, PassedTo, Onward};
+ghost use Rattle.runs.specs.Runs.{turnedAt, headSize, Behind, Passed, HeadTo, PassedTo, Onward};
 use framing::event_header::EventHeader;
 use framing::trailer::BlockTrailer;
 use framing::trigger_time::TriggerTime;
@@ -157,13 +158,30 @@ fn events_end(bytes: &[u8], from: usize, end: usize, slot: u32, left: u32) -> Ev
     Events { next: k, left: n }
 }
 
-// Behind an item of an event: past all that is passed at once, but not past the bytes, nor past the limit.
+// Whether this word stands as behind an item: so does a defining word where a time word might come.
+fn is_behind(scan: Scan, word: u32) -> bool
+    ensures { λ r. ⌜ (r ≡ true → Behind scan word) ⌝ }
+{
+    let p = scan.stage;
+    match p {
+        Stage::Start => false,
+        Stage::Head => false,
+        Stage::Front => false,
+        Stage::Opened => !(fields::is_continuation(word) | TriggerTime::is(word)),
+        Stage::Timed(_) => !fields::is_continuation(word),
+        Stage::Items => true,
+        Stage::Window(_, _) => false,
+        Stage::Raw(_, _) => false,
+        Stage::Tail(_) => false,
+    }
+}
+
+// Past all that is passed at once from this word on, but not past the bytes, nor past the limit.
 pub fn past_items(scan: Scan, bytes: &[u8], k: usize) -> Place
     ensures { λ r. ⌜ Onward (now (bytes .entry)) scan k (r .scan) (r .next) ⌝ }
 {
-    let p = scan.stage;
     let count = bytes.len() / 4;
-    if let Stage::Items = p {
+    if is_behind(scan, word_at(bytes, k)) {
         if k < count {
             if scan.place < PLACE_MAX {
                 let room = less(count - k, (PLACE_MAX - scan.place) as usize);
