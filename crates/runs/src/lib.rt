@@ -1,18 +1,17 @@
-// The check of an event's items many words at a time: measures, and windows of samples. Whatever else stands there is left to
-// the reader's step of one word, and so is every refusal.
+// The check inside events many words at a time: measures, windows, data sets, and the heads of events. Whatever else stands
+// there is left to the reader's step of one word, and so is every refusal.
 ghost use mathlib.Core.Path.{_≡_};
 ghost use mathlib.Core.Bool.{true};
 ghost use Prim.Native.Nat.{_+_, _*_, _≤_, _<_, min};
 ghost use lib.ListN.{length, getD};
 ghost use Rattle.fields.specs.Bytes.{wordsOfBytes};
-ghost use Rattle.runs.specs.Runs.{turnedAt, headSize, Behind, Passed, HeadTo, PassedTo, Onward};
-use framing::event_header::EventHeader;
+ghost use Rattle.runs.specs.Runs.{turnedAt, Behind, Passed, Onward};
 use framing::trailer::BlockTrailer;
 use framing::trigger_time::TriggerTime;
-use framing::trigger_time_high::TriggerTimeHigh;
 use scan::Scan;
 use scan::Stage;
 
+mod events;
 mod measured;
 mod plain;
 mod sets;
@@ -27,12 +26,6 @@ const CHUNK: usize = 8;
 pub struct Place {
     pub scan: Scan,
     pub next: usize,
-}
-
-// How far it went, and the event headers still to come.
-struct Events {
-    next: usize,
-    left: u32,
 }
 
 // The word of that number; past the end 0.
@@ -102,62 +95,6 @@ fn items_end(bytes: &[u8], from: usize, end: usize) -> usize
     k
 }
 
-// How many words an event's head has, by the two behind its header: a defining word shows that no more come. 0 where they are
-// left to the reader.
-fn head_size(low: u32, high: u32) -> usize
-    ensures { λ r. ⌜ (r ≤ 3) × (r ≡ headSize low high) ⌝ }
-{
-    if TriggerTimeHigh::is(low) {
-        return 0;
-    }
-    if !TriggerTime::is(low) {
-        return 1;
-    }
-    if !TriggerTimeHigh::is(high) {
-        return 2;
-    }
-    let same = fields::take(high, 0, 24) % 8 == fields::take(low, 24, 3);
-    if TriggerTimeHigh::fixed(high) & same {
-        3
-    } else {
-        0
-    }
-}
-
-// Behind the head of an event of that slot that stands here, or here.
-fn head_end(bytes: &[u8], k: usize, end: usize, slot: u32) -> usize
-    requires { ⌜ (k ≤ end) × (4 * end ≤ length (now bytes)) ⌝ }
-    ensures { λ r. ⌜ (r ≤ end) × HeadTo (wordsOfBytes (now (bytes .entry))) slot k r ⌝ }
-{
-    if end - k < 3 {
-        return k;
-    }
-    let head = joined_at(bytes, k);
-    if EventHeader::is(head) & (fields::take(head, 22, 5) == slot) {
-        k + head_size(joined_at(bytes, k + 1), joined_at(bytes, k + 2))
-    } else {
-        k
-    }
-}
-
-// The items that stand here, and event by event as long as the head of one is passed.
-fn events_end(bytes: &[u8], from: usize, end: usize, slot: u32, left: u32) -> Events
-    requires { ⌜ (from ≤ end) × (4 * end ≤ length (now bytes)) ⌝ }
-    ensures { λ r. ⌜ (r .next ≤ end) × PassedTo (wordsOfBytes (now (bytes .entry))) slot from left (r .next) (r .left) ⌝ }
-{
-    let mut k = items_end(bytes, from, end);
-    let mut n = left;
-    while 0 < n {
-        let next = head_end(bytes, k, end, slot);
-        if next == k {
-            return Events { next: k, left: n };
-        }
-        k = items_end(bytes, next, end);
-        n -= 1;
-    }
-    Events { next: k, left: n }
-}
-
 // Whether this word stands as behind an item: so does a defining word where a time word might come.
 fn is_behind(scan: Scan, word: u32) -> bool
     ensures { λ r. ⌜ (r ≡ true → Behind scan word) ⌝ }
@@ -185,7 +122,7 @@ pub fn past_items(scan: Scan, bytes: &[u8], k: usize) -> Place
         if k < count {
             if scan.place < PLACE_MAX {
                 let room = less(count - k, (PLACE_MAX - scan.place) as usize);
-                let run = events_end(bytes, k, k + room, scan.slot, scan.left);
+                let run = events::events_end(bytes, k, k + room, scan.slot, scan.left);
                 return Place {
                     scan: Scan {
                         place: scan.place + ((run.next - k) as u32),

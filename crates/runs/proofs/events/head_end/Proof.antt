@@ -1,4 +1,4 @@
--- `runs::head_end` meets its contract.
+-- `runs::events::head_end` meets its contract.
 use mathlib.Core.Path.{sym, _∙_}
 use native.Mathlib.Omega.{arith}
 use borrow.Author.Needs.{needs}
@@ -7,8 +7,8 @@ use Rattle.ground.specs.TestsLaws.{and-left, and-right}
 use Rattle.fields.specs.Bytes.{wordsOfBytes}
 use Rattle.runs.specs.WordsLaws.{words-count}
 use Rattle.runs.specs.RunsLaws.{head-none, head-run}
-use Rattle.runs.proofs.head_end.Statement.{statement}
-use Rattle.runs.proofs.head_end.Tie as tie
+use Rattle.runs.proofs.events.head_end.Statement.{statement}
+use Rattle.runs.proofs.events.head_end.Tie as tie
 
 returns : tie.Need-returns
 returns c = (omega arith, head-none _ _ _)

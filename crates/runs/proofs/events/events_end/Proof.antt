@@ -1,12 +1,12 @@
--- `runs::events_end` meets its contract. The invariant: all before is passed.
+-- `runs::events::events_end` meets its contract. The invariant: all before is passed.
 use Prim.Native.Nat.{_≤_}
 use native.Mathlib.Omega.{arith}
 use borrow.Author.Needs.{needs}
 use Rattle.fields.specs.Bytes.{wordsOfBytes}
 use Rattle.runs.specs.Runs.{PassedTo}
 use Rattle.runs.specs.RunsLaws.{items-passed, events-more}
-use Rattle.runs.proofs.events_end.Statement.{statement}
-use Rattle.runs.proofs.events_end.Tie as tie
+use Rattle.runs.proofs.events.events_end.Statement.{statement}
+use Rattle.runs.proofs.events.events_end.Tie as tie
 
 abbrev Inv-loop : tie.InvT-loop
 Inv-loop bytes from end slot left k₀ n₀ k n = (k ≤ end) × PassedTo (wordsOfBytes bytes) slot from left k n

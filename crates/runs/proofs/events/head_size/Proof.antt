@@ -1,11 +1,11 @@
--- `runs::head_size` meets its contract.
+-- `runs::events::head_size` meets its contract.
 use mathlib.Core.Path.{sym, _∙_}
 use native.Mathlib.Omega.{arith}
 use borrow.Author.Needs.{needs}
 use borrow.Author.Tests.{not-true, not-false}
 use Rattle.runs.specs.Runs.{headSize}
-use Rattle.runs.proofs.head_size.Statement.{statement}
-use Rattle.runs.proofs.head_size.Tie as tie
+use Rattle.runs.proofs.events.head_size.Statement.{statement}
+use Rattle.runs.proofs.events.head_size.Tie as tie
 
 returns : tie.Need-returns
 unfolding headSize
