@@ -2,11 +2,10 @@
 -- step of one word. Assumes nothing.
 use Prim.Native.Nat.{ℕ, _+_, _-_, _*_, _%_, _≤_, _<_}
 use mathlib.Core.Path.{_≡_}
-use mathlib.Core.Bool.{Bool, true, _&&_, _||_}
-use mathlib.Core.List.{List, [], _∷_}
+use mathlib.Core.Bool.{Bool, true, not, cond, _&&_, _||_}
+use mathlib.Core.List.{List, _∷_}
 use lib.Dec.{eqb}
 use lib.ListN.{length, getD, drop}
-use Rattle.ground.specs.Tests.{allOf}
 use Rattle.fields.specs.Word.{read}
 use Rattle.fields.specs.Tag.{isDefining, isContinuation}
 use Rattle.fields.specs.Bytes.{wordOfBytes, wordsOfBytes}
@@ -44,10 +43,14 @@ windowHead word = (isDefining 4 word && windowFixed word) && windowWithin (windo
 unfoldable pub rawHead : ℕ → Bool
 rawHead word = isDefining 6 word && pulseRawFixed word
 
--- an event header of that slot and its two time words, with nothing to refuse
-unfoldable pub eventHead : ℕ → ℕ → ℕ → ℕ → Bool
-eventHead slot head low high =
-    allOf (isDefining 2 head ∷ eqb (read 26 22 head) slot ∷ isDefining 3 low ∷ isContinuation high ∷ triggerTimeHighFixed high ∷ eqb (read 23 0 high % 8) (read 26 24 low) ∷ [])
+-- how many words an event's head has, by the two behind its header: a defining word shows that no more come; 0 where they are refused
+unfoldable pub headSize : ℕ → ℕ → ℕ
+headSize low high =
+    cond (isContinuation low) 0
+    (cond (not (isDefining 3 low)) 1
+    (cond (not (isContinuation high)) 2
+    (cond (triggerTimeHighFixed high && eqb (read 23 0 high % 8) (read 26 24 low)) 3
+    0)))
 
 -- ---- words in a row
 
@@ -61,6 +64,10 @@ pub record All (p : ℕ → Bool) (words : List ℕ) (k r : ℕ) : Type 0 where
 abbrev pub standing : ℕ → ℕ → ℕ → Stage → Scan
 standing place slot left stage = record { place = place; slot = slot; left = left; stage = stage }
 
+-- this word stands as behind an item
+pub record Behind (s : Scan) (word : ℕ) : Type 0 where
+  pub same : (words : List ℕ) → checkFrom s (word ∷ words) ≡ checkFrom (standing (s .place) (s .slot) (s .left) P.Items) (word ∷ words)
+
 -- behind an item at k, as behind an item at r, where no word between stands at the limit
 pub record Passed (words : List ℕ) (k r : ℕ) : Type 0 where
   pub ahead : k ≤ r
@@ -72,6 +79,11 @@ pub record PassedTo (words : List ℕ) (slot k left r rest : ℕ) : Type 0 where
   pub ahead : k ≤ r
   pub same : (place : ℕ) → place + (r - k) ≤ 4194303
       → checkFrom (standing place slot left P.Items) (drop k words) ≡ checkFrom (standing (place + (r - k)) slot rest P.Items) (drop r words)
+
+-- where k is before r an event's head stands between them: one event fewer is left
+pub record HeadTo (words : List ℕ) (slot k r : ℕ) : Type 0 where
+  pub ahead : k ≤ r
+  pub event : k < r → (left : ℕ) → 1 ≤ left → PassedTo words slot k left r (left - 1)
 
 -- the same of a scan and one further on; as many words as there are
 pub record Onward (bytes : List ℕ) (s : Scan) (k : ℕ) (t : Scan) (r : ℕ) : Type 0 where

@@ -1,13 +1,13 @@
 -- Words in a row that are passed. Assumes nothing.
 use Prim.Native.Nat.{ℕ, zero, suc, _+_, _-_, _/_, _%_, _≤_, _<_}
 use mathlib.Core.Path.{_≡_, refl, sym, ap, ap₂, _∙_}
-use mathlib.Core.Bool.{Bool, true, false, cond, _&&_, and-false}
-use mathlib.Core.List.{List, [], _∷_}
+use mathlib.Core.Bool.{Bool, true, false, not, cond, _&&_, and-false}
+use mathlib.Core.List.{List, _∷_}
 use native.Mathlib.Omega.{arith}
 use borrow.Author.Tests.{leb-true, lt-leb, eqb-true, ne-eqb}
 use lib.Dec.{eqb, leb}
 use lib.ListN.{length, getD, drop}
-use Rattle.ground.specs.TestsLaws.{and-left, and-right, every}
+use Rattle.ground.specs.TestsLaws.{and-left, and-right}
 use Rattle.fields.specs.Word.{read}
 use Rattle.fields.specs.Tag.{isDefining, isContinuation}
 use Rattle.limits.specs.Limits.{mostSamples, pairsOf}
@@ -18,8 +18,8 @@ use Rattle.scan.specs.declared.Stage.the-variants as P
 use Rattle.scan.specs.declared.Scan.{Scan}
 use Rattle.reader.specs.Reader.{checkFrom}
 use Rattle.reader.specs.RunLaws.{cons-at}
-use Rattle.runs.specs.Runs.{plain, single, measure, windowHead, rawHead, All, eventHead, standing, Passed, PassedTo}
-use Rattle.runs.specs.StepsLaws.{measure-passed, window-passed, raw-passed, event-passed, clock-passed, high-passed, plain-passed, plain-raw, single-passed, single-raw, raw-end}
+use Rattle.runs.specs.Runs.{plain, single, measure, windowHead, rawHead, headSize, All, standing, Behind, Passed, PassedTo, HeadTo}
+use Rattle.runs.specs.StepsLaws.{measure-passed, window-passed, raw-passed, event-passed, clock-passed, high-passed, plain-passed, plain-raw, single-passed, single-raw, raw-end, timed-end, opened-end}
 
 -- nothing passed, and one run behind another
 pub passed-none : (words : List ℕ) (k : ℕ) → Passed words k k
@@ -166,12 +166,12 @@ raw-single : (words : List ℕ) (u : ℕ) → u < 2 → (t k : ℕ) (some : Bool
 raw-single words zero v t k some w e a l d place slot left h =
     let y : place + 0 ≡ place = omega arith in
     let z : k + 0 ≡ k = omega arith in
-    rw (y, z, e refl) (at-word words k (standing place slot left (P.Raw t true)) (omega arith) ∙ raw-end place slot left t (getD words k 0) (drop (k + 1) words) (rw z at d) ∙ sym (at-word words k (standing place slot left P.Items) (omega arith)))
+    rw (y, z, e refl) (at-word words k (standing place slot left (P.Raw t true)) (omega arith) ∙ raw-end place slot left (getD words k 0) (drop (k + 1) words) (rw z at d) t ∙ sym (at-word words k (standing place slot left P.Items) (omega arith)))
 raw-single words (suc zero) v t k some w e a l d place slot left h =
     at-word words k (standing place slot left (P.Raw t some)) (omega arith)
     ∙ single-raw place slot left (drop (k + 1) words) (omega arith) (getD words k 0) (a .each k (omega arith) (omega arith)) t some w
     ∙ at-word words (k + 1) (standing (place + 1) slot left (P.Raw 0 true)) l
-    ∙ raw-end (place + 1) slot left 0 (getD words (k + 1) 0) (drop (k + 1 + 1) words) d
+    ∙ raw-end (place + 1) slot left (getD words (k + 1) 0) (drop (k + 1 + 1) words) d 0
     ∙ sym (at-word words (k + 1) (standing (place + 1) slot left P.Items) l)
 raw-single words (suc (suc u)) v t k some w e a l d place slot left h = absurd (omega arith)
 
@@ -210,35 +210,107 @@ events-more {words} {slot} {k} {left} {m} {some} {r} {rest} a b =
           a .same place (omega arith) ∙ b .same (place + (m - k)) (omega arith) ∙ ap (λ (n : ℕ). checkFrom (standing n slot rest P.Items) (drop r words)) z);
     }
 
-pub event-run : {words : List ℕ} {slot k left : ℕ} → eventHead slot (getD words k 0) (getD words (k + 1) 0) (getD words (k + 2) 0) ≡ true → 1 ≤ left → k + 3 ≤ length words
-    → PassedTo words slot k left (k + 3) (left - 1)
-unfolding eventHead
-event-run {words} {slot} {k} {left} d s l =
-    let head = getD words k 0 in
-    let low = getD words (k + 1) 0 in
-    let high = getD words (k + 2) 0 in
-    let e = every (isDefining 2 head ∷ eqb (read 26 22 head) slot ∷ isDefining 3 low ∷ isContinuation high ∷ triggerTimeHighFixed high ∷ eqb (read 23 0 high % 8) (read 26 24 low) ∷ []) d in
-    let second : k + 1 + 1 ≡ k + 2 = omega arith in
-    let third : k + 2 + 1 ≡ k + 3 = omega arith in
-    record {
-      ahead = omega arith;
-      same = λ place h.
-          (let z : place + 1 + 1 + 1 ≡ place + (k + 3 - k) = omega arith in
-          at-word words k (standing place slot left P.Items) (omega arith)
-          ∙ event-passed place slot left (drop (k + 1) words) (omega arith) head (e .0) (eqb-true (read 26 22 head) slot (e .1 .0)) s
-          ∙ at-word words (k + 1) (standing (place + 1) slot (left - 1) P.Opened) (omega arith)
-          ∙ clock-passed (place + 1) slot (left - 1) (drop (k + 1 + 1) words) (omega arith) low (e .1 .1 .0)
-          ∙ ap (λ (i : ℕ). checkFrom (standing (place + 1 + 1) slot (left - 1) (P.Timed (read 26 24 low))) (drop i words)) second
-          ∙ at-word words (k + 2) (standing (place + 1 + 1) slot (left - 1) (P.Timed (read 26 24 low))) (omega arith)
-          ∙ high-passed (place + 1 + 1) slot (left - 1) (drop (k + 2 + 1) words) (omega arith) (read 26 24 low) high (e .1 .1 .1 .0) (e .1 .1 .1 .1 .0) (eqb-true (read 23 0 high % 8) (read 26 24 low) (e .1 .1 .1 .1 .1 .0))
-          ∙ ap₂ (λ (i j : ℕ). checkFrom (standing i slot (left - 1) P.Items) (drop j words)) z third);
-    }
+pub head-none : (words : List ℕ) (slot k : ℕ) → HeadTo words slot k k
+head-none words slot k = record { ahead = omega arith; event = λ h. absurd (omega arith) }
 
--- ---- the scan behind them
+-- an event's head: the header alone, or with one time word, before a defining word; or with both
+module _ (words : List ℕ) (slot k left : ℕ) (some : 1 ≤ left) (head : isDefining 2 (getD words k 0) ≡ true) (same : read 26 22 (getD words k 0) ≡ slot) where
+  header : k < length words → (place : ℕ) → place < 4194303
+      → checkFrom (standing place slot left P.Items) (drop k words) ≡ checkFrom (standing (place + 1) slot (left - 1) P.Opened) (drop (k + 1) words)
+  header l place h = at-word words k (standing place slot left P.Items) l ∙ event-passed place slot left (drop (k + 1) words) h (getD words k 0) head same some
 
-pub onward-by : {words : List ℕ} {k r rest : ℕ} (s : Scan) {t : Scan} → s .stage ≡ P.Items → PassedTo words (s .slot) k (s .left) r rest → s .place + (r - k) ≤ 4194303
-    → t ≡ standing (s .place + (r - k)) (s .slot) rest P.Items → checkFrom s (drop k words) ≡ checkFrom t (drop r words)
-onward-by {words} {k} {r} s e a h i =
-    ap (λ (p : Stage). checkFrom (standing (s .place) (s .slot) (s .left) p) (drop k words)) e
+  clock : k + 1 < length words → isDefining 3 (getD words (k + 1) 0) ≡ true → (place : ℕ) → place + 1 < 4194303
+      → checkFrom (standing place slot left P.Items) (drop k words) ≡ checkFrom (standing (place + 1 + 1) slot (left - 1) (P.Timed (read 26 24 (getD words (k + 1) 0)))) (drop (k + 2) words)
+  clock l low place h =
+      let z : k + 1 + 1 ≡ k + 2 = omega arith in
+      header (omega arith) place (omega arith)
+      ∙ at-word words (k + 1) (standing (place + 1) slot (left - 1) P.Opened) l
+      ∙ clock-passed (place + 1) slot (left - 1) (drop (k + 1 + 1) words) h (getD words (k + 1) 0) low
+      ∙ ap (λ (i : ℕ). checkFrom (standing (place + 1 + 1) slot (left - 1) (P.Timed (read 26 24 (getD words (k + 1) 0)))) (drop i words)) z
+
+  head-alone : k + 1 < length words → isContinuation (getD words (k + 1) 0) ≡ false → isDefining 3 (getD words (k + 1) 0) ≡ false
+      → PassedTo words slot k left (k + 1) (left - 1)
+  head-alone l next low =
+      record {
+        ahead = omega arith;
+        same = λ place h.
+            (let z : place + 1 ≡ place + (k + 1 - k) = omega arith in
+            header (omega arith) place (omega arith)
+            ∙ at-word words (k + 1) (standing (place + 1) slot (left - 1) P.Opened) l
+            ∙ opened-end (place + 1) slot (left - 1) (getD words (k + 1) 0) (drop (k + 1 + 1) words) next low
+            ∙ sym (at-word words (k + 1) (standing (place + 1) slot (left - 1) P.Items) l)
+            ∙ ap (λ (i : ℕ). checkFrom (standing i slot (left - 1) P.Items) (drop (k + 1) words)) z);
+      }
+
+  head-low : k + 2 < length words → isDefining 3 (getD words (k + 1) 0) ≡ true → isContinuation (getD words (k + 2) 0) ≡ false
+      → PassedTo words slot k left (k + 2) (left - 1)
+  head-low l low next =
+      let middle = read 26 24 (getD words (k + 1) 0) in
+      record {
+        ahead = omega arith;
+        same = λ place h.
+            (let z : place + 1 + 1 ≡ place + (k + 2 - k) = omega arith in
+            clock (omega arith) low place (omega arith)
+            ∙ at-word words (k + 2) (standing (place + 1 + 1) slot (left - 1) (P.Timed middle)) l
+            ∙ timed-end (place + 1 + 1) slot (left - 1) (getD words (k + 2) 0) (drop (k + 2 + 1) words) next middle
+            ∙ sym (at-word words (k + 2) (standing (place + 1 + 1) slot (left - 1) P.Items) l)
+            ∙ ap (λ (i : ℕ). checkFrom (standing i slot (left - 1) P.Items) (drop (k + 2) words)) z);
+      }
+
+  head-high : k + 2 < length words → isDefining 3 (getD words (k + 1) 0) ≡ true → isContinuation (getD words (k + 2) 0) ≡ true → triggerTimeHighFixed (getD words (k + 2) 0) ≡ true
+      → read 23 0 (getD words (k + 2) 0) % 8 ≡ read 26 24 (getD words (k + 1) 0) → PassedTo words slot k left (k + 3) (left - 1)
+  head-high l low high fixed e =
+      let middle = read 26 24 (getD words (k + 1) 0) in
+      record {
+        ahead = omega arith;
+        same = λ place h.
+            (let z : place + 1 + 1 + 1 ≡ place + (k + 3 - k) = omega arith in
+            let y : k + 2 + 1 ≡ k + 3 = omega arith in
+            clock (omega arith) low place (omega arith)
+            ∙ at-word words (k + 2) (standing (place + 1 + 1) slot (left - 1) (P.Timed middle)) l
+            ∙ high-passed (place + 1 + 1) slot (left - 1) (drop (k + 2 + 1) words) (omega arith) middle (getD words (k + 2) 0) high fixed e
+            ∙ ap₂ (λ (i j : ℕ). checkFrom (standing i slot (left - 1) P.Items) (drop j words)) z y);
+      }
+
+  pub head-run : k + 2 < length words → (n : ℕ) → n ≡ headSize (getD words (k + 1) 0) (getD words (k + 2) 0) → 0 < n → PassedTo words slot k left (k + n) (left - 1)
+  unfolding headSize
+  head-run l n e h = go (isContinuation low) (isDefining 3 low) (isContinuation high) (triggerTimeHighFixed high && eqb (read 23 0 high % 8) (read 26 24 low)) refl refl refl refl e
+    where
+      low : ℕ
+      low = getD words (k + 1) 0
+
+      high : ℕ
+      high = getD words (k + 2) 0
+
+      go : (a b c d : Bool) → isContinuation low ≡ a → isDefining 3 low ≡ b → isContinuation high ≡ c → triggerTimeHighFixed high && eqb (read 23 0 high % 8) (read 26 24 low) ≡ d
+          → n ≡ cond a 0 (cond (not b) 1 (cond (not c) 2 (cond d 3 0))) → PassedTo words slot k left (k + n) (left - 1)
+      go true b c d i j m o e = absurd (omega arith)
+      go false false c d i j m o e = rw e (head-alone (omega arith) i j)
+      go false true false d i j m o e = rw e (head-low l j m)
+      go false true true true i j m o e = rw e (head-high l j m (and-left _ (eqb (read 23 0 high % 8) (read 26 24 low)) o) (eqb-true _ _ (and-right (triggerTimeHighFixed high) _ o)))
+      go false true true false i j m o e = absurd (omega arith)
+
+-- ---- the scan that they begin at, and the one behind them
+
+by-stage : (s : Scan) (word : ℕ) {p : Stage} → s .stage ≡ p
+    → ((words : List ℕ) → checkFrom (standing (s .place) (s .slot) (s .left) p) (word ∷ words) ≡ checkFrom (standing (s .place) (s .slot) (s .left) P.Items) (word ∷ words))
+    → Behind s word
+by-stage s word e f = record { same = λ words. ap (λ (q : Stage). checkFrom (standing (s .place) (s .slot) (s .left) q) (word ∷ words)) e ∙ f words }
+
+pub behind-item : (s : Scan) (word : ℕ) → s .stage ≡ P.Items → Behind s word
+behind-item s word e = by-stage s word e (λ words. refl)
+
+pub behind-header : (s : Scan) (word : ℕ) → s .stage ≡ P.Opened → isContinuation word ≡ false → isDefining 3 word ≡ false → Behind s word
+behind-header s word e d n = by-stage s word e (λ words. opened-end (s .place) (s .slot) (s .left) word words d n)
+
+pub behind-time : (s : Scan) (word : ℕ) {middle : ℕ} → s .stage ≡ P.Timed middle → isContinuation word ≡ false → Behind s word
+behind-time s word {middle} e d = by-stage s word e (λ words. timed-end (s .place) (s .slot) (s .left) word words d middle)
+
+pub onward-by : {words : List ℕ} {k r rest : ℕ} (s : Scan) {t : Scan} → k < length words → Behind s (getD words k 0) → PassedTo words (s .slot) k (s .left) r rest
+    → s .place + (r - k) ≤ 4194303 → t ≡ standing (s .place + (r - k)) (s .slot) rest P.Items → checkFrom s (drop k words) ≡ checkFrom t (drop r words)
+onward-by {words} {k} {r} s l b a h i =
+    at-word words k s l
+    ∙ b .same (drop (k + 1) words)
+    ∙ sym (at-word words k (standing (s .place) (s .slot) (s .left) P.Items) l)
     ∙ a .same (s .place) h
     ∙ ap (λ (u : Scan). checkFrom u (drop r words)) (sym i)

@@ -4,12 +4,13 @@ use mathlib.Core.Path.{_≡_, refl, sym, ap, _∙_}
 use mathlib.Core.Bool.{Bool, true, false, cond, _&&_, _||_, and-false}
 use mathlib.Core.List.{List, _∷_}
 use native.Mathlib.Omega.{arith}
-use borrow.Author.Tests.{eqb-true, eq-eqb, ne-eqb}
+use borrow.Author.Tests.{eqb-true, eqb-false, eq-eqb, ne-eqb}
 use lib.Dec.{eqb, leb}
 use lib.ListN.{drop}
 use Rattle.ground.specs.Tests.{firstOf}
 use Rattle.ground.specs.TestsLaws.{and-left, and-right}
 use Rattle.fields.specs.Word.{fieldAt, read}
+use Rattle.fields.specs.WordLaws.{field-lt}
 use Rattle.fields.specs.Tag.{isDefining, isContinuation}
 use Rattle.limits.specs.Limits.{pairsOf}
 use Rattle.framing.specs.Words.{eventHeaderOf, triggerTimeOf, triggerTimeHighOf, triggerTimeHighFixed}
@@ -24,7 +25,7 @@ use Rattle.scan.specs.declared.Stage.the-variants as P
 use Rattle.scan.specs.declared.Scan.{Scan}
 use Rattle.scan.specs.declared.Meaning.{Meaning}
 use Rattle.scan.specs.declared.Meaning.the-variants as M
-use Rattle.scan.specs.Meaning.{meaningAt, unfinished}
+use Rattle.scan.specs.Meaning.{inner, meaningIn, meaningAt, unfinishedBy, unfinished}
 use Rattle.scan.specs.MeaningLaws.{meaning-type, meaning-more}
 use Rattle.scan.specs.After.{onward, after}
 use Rattle.questions.specs.Questions.{atLimit, refusals, refusalOf}
@@ -178,29 +179,48 @@ module _ (place slot left : ℕ) (words : List ℕ) (h : place < 4194303) where
         let b = single-bits word d in
         went (P.Raw n some) left (P.Raw 0 true) word F.Pair (meaning-more _ word (b .more) ∙ rw (ne-eqb n 0 (omega arith))) (rw (b .fixed, b .first, b .second, b .none)) (rw (b .second))
 
--- behind the pairs of a data set a defining word stands as behind any other item
-module _ (place slot left n word : ℕ) where
+-- ---- where a defining word stands as behind an item
+
+module _ (place slot left word : ℕ) (p : Stage) (u : unfinishedBy p ≡ true) where
   judged : Stage → Meaning → Step
-  judged p m = stepBy (standing place slot left p) m word (refusalOf (standing place slot left p) m word)
+  judged q m = stepBy (standing place slot left q) m word (refusalOf (standing place slot left q) m word)
 
   either : (window raw integral time pedestal event trailer : Bool)
       → let m = cond window (M.Form F.Window) (cond raw (M.Form F.Raw) (cond integral (M.Form F.Integral) (cond time (M.Form F.Time) (cond pedestal (M.Form F.Pedestal) (cond event (M.Form F.Event) (cond trailer (M.Form F.Trailer) M.Unallowed)))))) in
-      judged (P.Raw n true) m ≡ judged P.Items m
+      judged p m ≡ judged P.Items m
   unfolding judged refusalOf firstOf atLimit after
-  either true raw integral time pedestal event trailer = refl
-  either false true integral time pedestal event trailer = refl
-  either false false true time pedestal event trailer = refl
-  either false false false true pedestal event trailer = refl
-  either false false false false true event trailer = refl
-  either false false false false false true trailer = refl
-  either false false false false false false true = refl
-  either false false false false false false false = refl
+  either true raw integral time pedestal event trailer = rw u
+  either false true integral time pedestal event trailer = rw u
+  either false false true time pedestal event trailer = rw u
+  either false false false true pedestal event trailer = rw u
+  either false false false false true event trailer = rw u
+  either false false false false false true trailer = rw u
+  either false false false false false false true = rw u
+  either false false false false false false false = rw u
 
-  same-step : isContinuation word ≡ false → stepAt (standing place slot left (P.Raw n true)) word ≡ stepAt (standing place slot left P.Items) word
+  same-step : meaningAt (standing place slot left p) word ≡ meaningIn M.Unallowed inner (read 30 27 word) → isContinuation word ≡ false
+      → stepAt (standing place slot left p) word ≡ stepAt (standing place slot left P.Items) word
   unfolding stepAt meaningAt isContinuation judged
-  same-step d = rw d (let k = read 30 27 word in either (eqb k 4) (eqb k 6) (eqb k 7) (eqb k 8) (eqb k 10) (eqb k 2) (eqb k 1))
+  same-step m d = rw (m, d) (let k = read 30 27 word in either (eqb k 4) (eqb k 6) (eqb k 7) (eqb k 8) (eqb k 10) (eqb k 2) (eqb k 1))
 
-  pub raw-end : (words : List ℕ) → isContinuation word ≡ false
-      → checkFrom (standing place slot left (P.Raw n true)) (word ∷ words) ≡ checkFrom (standing place slot left P.Items) (word ∷ words)
+  same-check : (words : List ℕ) → meaningAt (standing place slot left p) word ≡ meaningIn M.Unallowed inner (read 30 27 word) → isContinuation word ≡ false
+      → checkFrom (standing place slot left p) (word ∷ words) ≡ checkFrom (standing place slot left P.Items) (word ∷ words)
   unfolding checkFrom
-  raw-end words d = ap (λ (t : Step). onStep t place (λ u. checkFrom u words)) (same-step d)
+  same-check words m d = ap (λ (t : Step). onStep t place (λ v. checkFrom v words)) (same-step m d)
+
+module _ (place slot left word : ℕ) (words : List ℕ) (d : isContinuation word ≡ false) where
+  pub raw-end : (n : ℕ) → checkFrom (standing place slot left (P.Raw n true)) (word ∷ words) ≡ checkFrom (standing place slot left P.Items) (word ∷ words)
+  unfolding meaningAt isContinuation
+  raw-end n = same-check place slot left word (P.Raw n true) refl words (rw d) d
+
+  pub timed-end : (middle : ℕ) → checkFrom (standing place slot left (P.Timed middle)) (word ∷ words) ≡ checkFrom (standing place slot left P.Items) (word ∷ words)
+  unfolding meaningAt isContinuation
+  timed-end middle = same-check place slot left word (P.Timed middle) refl words (rw d) d
+
+  -- a time word alone stands behind an event header as behind nothing else
+  pub opened-end : isDefining 3 word ≡ false → checkFrom (standing place slot left P.Opened) (word ∷ words) ≡ checkFrom (standing place slot left P.Items) (word ∷ words)
+  unfolding meaningAt isContinuation isDefining
+  opened-end e =
+      let some : read 31 31 word ≡ 0 → ⊥ = eqb-false (read 31 31 word) 0 d in
+      let bit : read 31 31 word ≡ 1 = omega (arith, field-lt word 31 1) in
+      same-check place slot left word P.Opened refl words (rw (d, rw bit at e)) d

@@ -1,18 +1,17 @@
-// The check of an event's items many words at a time: measures, and windows of samples. Whatever else stands there is left to
-// the reader's step of one word, and so is every refusal.
+// The check inside events many words at a time: measures, windows, data sets, and the heads of events. Whatever else stands
+// there is left to the reader's step of one word, and so is every refusal.
 ghost use mathlib.Core.Path.{_≡_};
 ghost use mathlib.Core.Bool.{true};
 ghost use Prim.Native.Nat.{_+_, _*_, _≤_, _<_, min};
 ghost use lib.ListN.{length, getD};
 ghost use Rattle.fields.specs.Bytes.{wordsOfBytes};
-ghost use Rattle.runs.specs.Runs.{turnedAt, eventHead, Passed, PassedTo, Onward};
-use framing::event_header::EventHeader;
+ghost use Rattle.runs.specs.Runs.{turnedAt, Behind, Passed, Onward};
 use framing::trailer::BlockTrailer;
 use framing::trigger_time::TriggerTime;
-use framing::trigger_time_high::TriggerTimeHigh;
 use scan::Scan;
 use scan::Stage;
 
+mod events;
 mod measured;
 mod plain;
 mod sets;
@@ -27,12 +26,6 @@ const CHUNK: usize = 8;
 pub struct Place {
     pub scan: Scan,
     pub next: usize,
-}
-
-// How far it went, and the event headers still to come.
-struct Events {
-    next: usize,
-    left: u32,
 }
 
 // The word of that number; past the end 0.
@@ -81,7 +74,10 @@ fn item_end(bytes: &[u8], k: usize, end: usize) -> usize
     if sets::is_raw(word) {
         return sets::raw_end(bytes, k, end);
     }
-    measured::measured_end(bytes, k, end)
+    if measured::measure_at(bytes, k) {
+        return measured::measured_end(bytes, k + 1, end);
+    }
+    k
 }
 
 fn items_end(bytes: &[u8], from: usize, end: usize) -> usize
@@ -99,61 +95,34 @@ fn items_end(bytes: &[u8], from: usize, end: usize) -> usize
     k
 }
 
-// An event header of that slot and its two time words.
-fn is_head(slot: u32, head: u32, low: u32, high: u32) -> bool
-    ensures { λ r. ⌜ r ≡ eventHead slot head low high ⌝ }
+// Whether this word stands as behind an item: so does a defining word where a time word might come.
+fn is_behind(scan: Scan, word: u32) -> bool
+    ensures { λ r. ⌜ (r ≡ true → Behind scan word) ⌝ }
 {
-    EventHeader::is(head)
-        & (fields::take(head, 22, 5) == slot)
-        & TriggerTime::is(low)
-        & TriggerTimeHigh::is(high)
-        & TriggerTimeHigh::fixed(high)
-        & (fields::take(high, 0, 24) % 8 == fields::take(low, 24, 3))
-}
-
-fn head_at(bytes: &[u8], k: usize, end: usize, slot: u32) -> bool
-    requires { ⌜ (k ≤ end) × (4 * end ≤ length (now bytes)) ⌝ }
-    ensures { λ r. ⌜ (r ≡ true → (k + 3 ≤ end) × (eventHead slot (getD (wordsOfBytes (now (bytes .entry))) k 0) (getD (wordsOfBytes (now (bytes .entry))) (k + 1) 0) (getD (wordsOfBytes (now (bytes .entry))) (k + 2) 0) ≡ true)) ⌝ }
-{
-    if end - k < 3 {
-        return false;
+    let p = scan.stage;
+    match p {
+        Stage::Start => false,
+        Stage::Head => false,
+        Stage::Front => false,
+        Stage::Opened => !(fields::is_continuation(word) | TriggerTime::is(word)),
+        Stage::Timed(_) => !fields::is_continuation(word),
+        Stage::Items => true,
+        Stage::Window(_, _) => false,
+        Stage::Raw(_, _) => false,
+        Stage::Tail(_) => false,
     }
-    is_head(
-        slot,
-        joined_at(bytes, k),
-        joined_at(bytes, k + 1),
-        joined_at(bytes, k + 2),
-    )
 }
 
-// The items that stand here, and event by event as long as the head of one is passed.
-fn events_end(bytes: &[u8], from: usize, end: usize, slot: u32, left: u32) -> Events
-    requires { ⌜ (from ≤ end) × (4 * end ≤ length (now bytes)) ⌝ }
-    ensures { λ r. ⌜ (r .next ≤ end) × PassedTo (wordsOfBytes (now (bytes .entry))) slot from left (r .next) (r .left) ⌝ }
-{
-    let mut k = items_end(bytes, from, end);
-    let mut n = left;
-    while 0 < n {
-        if !head_at(bytes, k, end, slot) {
-            return Events { next: k, left: n };
-        }
-        k = items_end(bytes, k + 3, end);
-        n -= 1;
-    }
-    Events { next: k, left: n }
-}
-
-// Behind an item of an event: past all that is passed at once, but not past the bytes, nor past the limit.
+// Past all that is passed at once from this word on, but not past the bytes, nor past the limit.
 pub fn past_items(scan: Scan, bytes: &[u8], k: usize) -> Place
     ensures { λ r. ⌜ Onward (now (bytes .entry)) scan k (r .scan) (r .next) ⌝ }
 {
-    let p = scan.stage;
     let count = bytes.len() / 4;
-    if let Stage::Items = p {
+    if is_behind(scan, word_at(bytes, k)) {
         if k < count {
             if scan.place < PLACE_MAX {
                 let room = less(count - k, (PLACE_MAX - scan.place) as usize);
-                let run = events_end(bytes, k, k + room, scan.slot, scan.left);
+                let run = events::events_end(bytes, k, k + room, scan.slot, scan.left);
                 return Place {
                     scan: Scan {
                         place: scan.place + ((run.next - k) as u32),

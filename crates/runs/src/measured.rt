@@ -5,16 +5,26 @@ ghost use Prim.Native.Nat.{_+_, _*_, _≤_};
 ghost use lib.ListN.{length, getD};
 ghost use Rattle.fields.specs.Bytes.{wordsOfBytes};
 ghost use Rattle.runs.specs.Runs.{measure, All};
+use measures::integral::PulseIntegral;
+use measures::pedestal::PulsePedestal;
+use measures::time::PulseTime;
 
-// Bit 31 and the type stand in the first byte; a time's zero bits beside them, and on top of the third.
-fn measure_at(bytes: &[u8], k: usize) -> bool
+// Bit 31 and the type: the high bits of the first byte.
+const INTEGRAL: u32 = 16 + PulseIntegral::TAG;
+
+const TIME: u32 = 16 + PulseTime::TAG;
+
+const PEDESTAL: u32 = 16 + PulsePedestal::TAG;
+
+// A time's zero bits are the low bits of the second byte, which stand beside its type here, and the high bit of the third.
+pub(crate) fn measure_at(bytes: &[u8], k: usize) -> bool
     requires { ⌜ 4 * k + 4 ≤ length (now bytes) ⌝ }
     ensures { λ r. ⌜ (r ≡ true → measure (getD (wordsOfBytes (now (bytes .entry))) k 0) ≡ true) ⌝ }
 {
     let word = crate::turned_at(bytes, k);
     let tag = fields::take(word, 3, 5);
-    let time = (fields::take(word, 3, 8) == 24) & (fields::take(word, 23, 1) == 0);
-    (tag == 23) | (tag == 26) | time
+    let time = (fields::take(word, 3, 8) == TIME) & (fields::take(word, 23, 1) == 0);
+    (tag == INTEGRAL) | (tag == PEDESTAL) | time
 }
 
 fn chunk_measured(bytes: &[u8], k: usize) -> bool

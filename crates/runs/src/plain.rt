@@ -6,6 +6,9 @@ ghost use lib.ListN.{length, getD};
 ghost use Rattle.fields.specs.Bytes.{wordsOfBytes};
 ghost use Rattle.runs.specs.Runs.{plain, single, All};
 
+// The flag of the second sample: bit 13.
+const FLAG: u32 = 8192;
+
 // Two samples without a flag.
 fn plain_at(bytes: &[u8], k: usize) -> bool
     requires { ⌜ 4 * k + 4 ≤ length (now bytes) ⌝ }
@@ -65,7 +68,7 @@ pub(crate) fn single_end(bytes: &[u8], k: usize, end: usize) -> usize
 {
     if k < end {
         let word = crate::joined_at(bytes, k);
-        if (fields::take(word, 29, 3) == 0) & (fields::take(word, 0, 16) == 8192) {
+        if (fields::take(word, 29, 3) == 0) & (fields::take(word, 0, 16) == FLAG) {
             return k + 1;
         }
     }
