@@ -47,12 +47,15 @@ fn put_pairs(words: &mut [u32], at: usize, samples: &[u16]) -> usize
     requires { ⌜ at + length (pairItems (now samples)) ≤ length (now words) ⌝ }
     ensures { λ r. ⌜ Written (now (words .entry)) at (wordsOf (pairItems (now (samples .entry)))) r (now (words .exit)) ⌝ }
 {
+    let half = samples.len() / 2;
     let mut next = at;
-    let mut i = 0;
-    while i + 1 < samples.len() {
+    let mut j = 0;
+    while j < half {
+        let i = 2 * j;
         next = put_word(words, next, pair_word(samples[i], samples[i + 1]));
-        i += 2;
+        j += 1;
     }
+    let i = 2 * half;
     if i < samples.len() {
         return put_word(words, next, odd_word(samples[i]));
     }
