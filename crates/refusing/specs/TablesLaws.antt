@@ -1,19 +1,37 @@
 -- What an accepted call has, by name, of each table. Assumes nothing.
 use Prim.Native.Nat.{ℕ, _+_, _*_, _≤_, _<_}
 use mathlib.Core.Path.{_≡_, refl}
-use mathlib.Core.Bool.{true, false}
-use mathlib.Core.List.{List}
+use mathlib.Core.Bool.{Bool, true, false, not, _&&_, _||_, cond}
+use mathlib.Core.List.{List, _∷_}
 use borrow.Author.Tests.{ltb-true, ltb-false, eqb-true, not-false}
 use lib.ListN.{length, getD}
+use Rattle.ground.specs.Tests.{FirstIs, this-row, later-row}
 use Rattle.ground.specs.TestsLaws.{or-none, none}
 use Rattle.settings.specs.declared.Settings.{Settings}
 use Rattle.settings.specs.Ranges.{settingsOk}
 use Rattle.samples.specs.Sample.{samplesOk}
 use Rattle.rows.specs.Rows.{rowsOk}
 use Rattle.block.specs.Block.{blockItems, endItems}
+use Rattle.state.specs.declared.Phase.{Phase}
 use Rattle.state.specs.declared.State.{State}
-use Rattle.state.specs.State.{blockOk, eventOk, stateOk, isIdle, isBlock, isEvent}
+use Rattle.state.specs.State.{blockOk, eventOk, phaseOk, stateOk, isIdle, isBlock, isEvent}
+use Rattle.state.specs.StateLaws.{state-in}
 use Rattle.refusing.specs.Tables.{setUpNumber, openBlockTable, openBlockNumber, openEventTable, openEventNumber, postTable, postNumber, closingItems, closeTable, closeNumber, finishTable, finishNumber}
+
+-- ---- the first two rows of a table on a state
+
+-- in its phase the state's ranges are asked as those of its settings and of the phase
+pub ranges-asked : (s : State) (p : Phase) → s .phase ≡ p → {a b : Bool} → a ≡ settingsOk (s .settings) → b ≡ phaseOk p s → not (stateOk s) ≡ (not a || not b)
+ranges-asked s p e {a = a} {b = b} f g = rw (state-in s p e, ← f, ← g) (go a)
+  where
+    go : (x : Bool) → not (x && b) ≡ (not x || not b)
+    go true = refl
+    go false = refl
+
+-- out of turn
+pub turn-missed : (b : Bool) {t : Bool} {rs : List (ℕ × Bool)} → t ≡ true → FirstIs ((10, not b) ∷ (7, t) ∷ rs) (cond b 7 10)
+turn-missed true e = later-row _ refl (this-row _ _ e)
+turn-missed false e = this-row _ _ refl
 
 -- ---- set up
 

@@ -1,16 +1,22 @@
 // Which refusal a call is given: the rows of its table are asked in the paper's order, and none that an earlier one makes needless.
 ghost use mathlib.Core.Path.{_≡_};
+ghost use mathlib.Core.Bool.{cond};
 ghost use Prim.Native.Nat.{_*_};
 ghost use lib.Dec.{ltb};
 ghost use Rattle.refusals.specs.Refusal.{numberOf};
+ghost use Rattle.state.specs.State.{stateOk};
 ghost use Rattle.refusing.specs.Tables.{openBlockNumber, openEventNumber, postNumber, beforeRoom, finishNumber};
 use block::end_short;
 use items::put::room_short;
 use refusals::Refusal;
+use settings::in_range;
 use state::State;
+use state::ranges::between_ok;
 use state::ranges::block_ok;
+use state::ranges::during_ok;
 use state::ranges::event_ok;
 use state::ranges::head_words;
+use state::ranges::idle_ok;
 use state::ranges::is_block;
 use state::ranges::is_event;
 use state::ranges::is_idle;
@@ -23,16 +29,28 @@ fn store_short(room: usize, nw: usize) -> bool
     room / 16 < nw
 }
 
+// A call out of turn: 7, but for a state that breaks its ranges 10, which comes first. A call in turn asks the ranges of its own phase
+// alone, so that no state is copied for them.
+fn out_of_turn(s: State) -> Refusal
+    ensures { λ r. ⌜ numberOf r ≡ cond (stateOk s) 7 10 ⌝ }
+{
+    if state_ok(s) {
+        return Refusal::Turn;
+    }
+    Refusal::State
+}
+
 pub fn open_block_check(s: State, room: usize, number: u32, events: u32) -> Refusal
     ensures { λ r. ⌜ numberOf r ≡ openBlockNumber s room number events ⌝ }
 {
     let phase = s.phase;
     let settings = s.settings;
-    if !state_ok(s) {
-        return Refusal::State;
-    }
     if !is_idle(phase) {
-        return Refusal::Turn;
+        return out_of_turn(s);
+    }
+    let good = in_range(settings);
+    if !good | !idle_ok(s) {
+        return Refusal::State;
     }
     if !block_ok(number, events) {
         return Refusal::Number;
@@ -47,10 +65,15 @@ pub fn open_event_check(s: State, number: u32, time: u64) -> Refusal
     ensures { λ r. ⌜ numberOf r ≡ openEventNumber s number time ⌝ }
 {
     let phase = s.phase;
-    if !state_ok(s) {
+    let settings = s.settings;
+    if !is_block(phase) {
+        return out_of_turn(s);
+    }
+    let good = in_range(settings);
+    if !good | !between_ok(s) {
         return Refusal::State;
     }
-    if !is_block(phase) | !(s.closed < s.events) {
+    if !(s.closed < s.events) {
         return Refusal::Turn;
     }
     if !event_ok(number, time) {
@@ -66,11 +89,12 @@ pub fn post_check(s: State, room: usize, channel: usize, window: &[u16]) -> Refu
     let phase = s.phase;
     let settings = s.settings;
     let posted = s.posted;
-    if !state_ok(s) {
-        return Refusal::State;
-    }
     if !is_event(phase) {
-        return Refusal::Turn;
+        return out_of_turn(s);
+    }
+    let good = in_range(settings);
+    if !good | !during_ok(s) {
+        return Refusal::State;
     }
     if 15 < channel {
         return Refusal::Channel;
@@ -97,11 +121,12 @@ pub fn close_check(s: State, store: &[u16]) -> Refusal
     let phase = s.phase;
     let settings = s.settings;
     let posted = s.posted;
-    if !state_ok(s) {
-        return Refusal::State;
-    }
     if !is_event(phase) {
-        return Refusal::Turn;
+        return out_of_turn(s);
+    }
+    let good = in_range(settings);
+    if !good | !during_ok(s) {
+        return Refusal::State;
     }
     if store_short(store.len(), settings.nw) {
         return Refusal::Store;
@@ -117,10 +142,14 @@ pub fn finish_check(s: State, room: usize) -> Refusal
 {
     let phase = s.phase;
     let settings = s.settings;
-    if !state_ok(s) {
+    if !is_block(phase) {
+        return out_of_turn(s);
+    }
+    let good = in_range(settings);
+    if !good | !between_ok(s) {
         return Refusal::State;
     }
-    if !is_block(phase) | (s.closed != s.events) {
+    if s.closed != s.events {
         return Refusal::Turn;
     }
     if end_short(room, s.words, settings) {

@@ -1,7 +1,7 @@
 -- What a state in its ranges says, and which changes keep it there. Assumes nothing.
 use Prim.Native.Nat.{ℕ, _+_, _-_, _*_, _^_, _≤_, _<_}
 use mathlib.Core.Path.{_≡_, refl, sym, ap, _∙_}
-use mathlib.Core.Bool.{Bool, true, false, cond, false≢true}
+use mathlib.Core.Bool.{Bool, true, false, cond, _&&_, false≢true}
 use mathlib.Core.List.{List, [], _∷_}
 use native.Mathlib.Nat.{add-mul, zero-mul, mul-le-mul}
 use native.Mathlib.Omega.{arith}
@@ -20,6 +20,11 @@ use Rattle.state.specs.CodeLaws.{head-le}
 
 -- ---- what a state in range says, by its phase
 
+-- the ranges of a state are those of its settings and of its phase
+pub state-in : (s : State) (p : Phase) → s .phase ≡ p → stateOk s ≡ settingsOk (s .settings) && phaseOk p s
+unfolding stateOk
+state-in s p e = ap (λ (q : Phase). settingsOk (s .settings) && phaseOk q s) e
+
 pub state-settings : (s : State) → stateOk s ≡ true → settingsOk (s .settings) ≡ true
 unfolding stateOk
 state-settings s h = and-left _ (phaseOk (s .phase) s) h
@@ -28,17 +33,17 @@ state-tests : (s : State) (p : Phase) → stateOk s ≡ true → s .phase ≡ p 
 unfolding stateOk phaseOk
 state-tests s p h e = every (phaseTests p s) (ap (λ (q : Phase). phaseOk q s) (sym e) ∙ and-right (settingsOk (s .settings)) _ h)
 
-is-idle : (p : Phase) → isIdle p ≡ true → p ≡ Idle
+pub is-idle : (p : Phase) → isIdle p ≡ true → p ≡ Idle
 is-idle Idle h = refl
 is-idle Block h = absurd (false≢true h)
 is-idle Event h = absurd (false≢true h)
 
-is-block : (p : Phase) → isBlock p ≡ true → p ≡ Block
+pub is-block : (p : Phase) → isBlock p ≡ true → p ≡ Block
 is-block Idle h = absurd (false≢true h)
 is-block Block h = refl
 is-block Event h = absurd (false≢true h)
 
-is-event : (p : Phase) → isEvent p ≡ true → p ≡ Event
+pub is-event : (p : Phase) → isEvent p ≡ true → p ≡ Event
 is-event Idle h = absurd (false≢true h)
 is-event Block h = absurd (false≢true h)
 is-event Event h = refl

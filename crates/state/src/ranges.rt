@@ -2,6 +2,7 @@
 ghost use mathlib.Core.Path.{_≡_};
 ghost use mathlib.Core.Bool.{cond};
 ghost use Prim.Native.Nat.{_+_};
+ghost use Rattle.state.specs.declared.Phase.the-variants.{Idle, Block, Event};
 ghost use Rattle.state.specs.State.{blockOk, eventOk, wordsOk, noMarks, inBlockOk, phaseOk, stateOk, isIdle, isBlock, isEvent};
 use crate::Phase;
 use crate::State;
@@ -65,27 +66,49 @@ fn in_block_ok(s: State) -> bool
     block_ok(s.block, s.events) & words
 }
 
-// All but the settings is within the ranges of the phase.
-fn phase_ok(s: State) -> bool
-    ensures { λ r. ⌜ r ≡ phaseOk (s .phase) s ⌝ }
+// All but the settings is within the ranges of each phase: no block is open,
+pub fn idle_ok(s: State) -> bool
+    ensures { λ r. ⌜ r ≡ phaseOk Idle s ⌝ }
+{
+    let posted = s.posted;
+    let clear = no_marks(&posted);
+    (s.block == 0)
+        & (s.events == 0)
+        & (s.event == 0)
+        & (s.time == 0)
+        & clear
+        & (s.closed == 0)
+        & (s.words == 0)
+}
+
+// a block is open and no event of it,
+pub fn between_ok(s: State) -> bool
+    ensures { λ r. ⌜ r ≡ phaseOk Block s ⌝ }
 {
     let posted = s.posted;
     let clear = no_marks(&posted);
     let block = in_block_ok(s);
+    block & (s.closed <= s.events) & (s.event == 0) & (s.time == 0) & clear
+}
+
+// an event is open.
+pub fn during_ok(s: State) -> bool
+    ensures { λ r. ⌜ r ≡ phaseOk Event s ⌝ }
+{
+    let block = in_block_ok(s);
     let event = event_ok(s.event, s.time);
+    block & (s.closed < s.events) & event
+}
+
+// The same of the state's own phase.
+fn phase_ok(s: State) -> bool
+    ensures { λ r. ⌜ r ≡ phaseOk (s .phase) s ⌝ }
+{
     let phase = s.phase;
     match phase {
-        Phase::Idle => {
-            (s.block == 0)
-                & (s.events == 0)
-                & (s.event == 0)
-                & (s.time == 0)
-                & clear
-                & (s.closed == 0)
-                & (s.words == 0)
-        }
-        Phase::Block => block & (s.closed <= s.events) & (s.event == 0) & (s.time == 0) & clear,
-        Phase::Event => block & (s.closed < s.events) & event,
+        Phase::Idle => idle_ok(s),
+        Phase::Block => between_ok(s),
+        Phase::Event => during_ok(s),
     }
 }
 

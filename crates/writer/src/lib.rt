@@ -99,10 +99,8 @@ pub fn post(state: State, store: &mut [u16], channel: usize, window: &[u16]) -> 
 {
     let refusal = refusing::post_check(state, store.len(), channel, window);
     if refusals::accepted(refusal) {
-        let settings = state.settings;
-        let nw = settings.nw;
-        let start = channel * nw;
-        let end = start + nw;
+        let start = channel * window.len();
+        let end = start + window.len();
         put::fill(&mut store[start..end], window);
         let mut marked = state;
         marked.posted[channel] = true;
