@@ -61,22 +61,22 @@ pub(crate) fn glance(scan: Scan, word: u32) -> Quick
     match p {
         Stage::Items => measure(scan, word),
         Stage::Window(n, odd) => {
-            if (1 < n) & is_plain(word) {
-                return Quick::Took(
-                    Kind::Pair,
-                    scan::after::moved(scan, Stage::Window(n - 1, odd)),
-                );
+            if !((1 < n) & is_plain(word)) {
+                return Quick::Other;
             }
-            Quick::Other
+            Quick::Took(
+                Kind::Pair,
+                scan::after::moved(scan, Stage::Window(n - 1, odd)),
+            )
         }
         Stage::Raw(n, _) => {
-            if (0 < n) & is_plain(word) {
-                return Quick::Took(
-                    Kind::Pair,
-                    scan::after::moved(scan, Stage::Raw(n - 1, true)),
-                );
+            if !((0 < n) & is_plain(word)) {
+                return Quick::Other;
             }
-            Quick::Other
+            Quick::Took(
+                Kind::Pair,
+                scan::after::moved(scan, Stage::Raw(n - 1, true)),
+            )
         }
         _ => Quick::Other,
     }

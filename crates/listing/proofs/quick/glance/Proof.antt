@@ -1,7 +1,7 @@
 -- `listing::quick::glance` meets its contract: what the reader would judge.
 use mathlib.Core.Path.{sym, _∙_}
 use native.Mathlib.Omega.{arith}
-use borrow.Author.Tests.{ltb-true}
+use borrow.Author.Tests.{ltb-true, not-false}
 use Rattle.ground.specs.TestsLaws.{and-left}
 use Rattle.listing.specs.QuickLaws.{window-quick, raw-quick}
 use borrow.Author.Needs.{needs}
@@ -11,21 +11,21 @@ use Rattle.listing.proofs.quick.glance.Tie as tie
 measure-requires : tie.Need-measure-requires
 measure-requires c κs = (c .enum-told .given .1, sym (c .before .before .before .at-limit .ensures) ∙ c .before .before .if1 .left)
 
-sub-t14 : tie.Need-sub-t14
-sub-t14 c = omega (arith, ltb-true 1 (c .before .before .before .p .given .0 .0) (and-left _ _ (c .if2 .taken)))
+sub-t15 : tie.Need-sub-t15
+sub-t15 c = omega (arith, ltb-true 1 (c .before .before .before .p .given .0 .0) (and-left _ _ (not-false _ (c .if2 .left))))
 
-returns-2 : tie.Need-returns-2
-returns-2 c =
+sub-t23 : tie.Need-sub-t23
+sub-t23 c = omega (arith, ltb-true 0 (c .before .before .before .p2 .given .0 .0) (and-left _ _ (not-false _ (c .if3 .left))))
+
+returns-5 : tie.Need-returns-5
+returns-5 c =
     rw (c .moved .ensures)
-    (window-quick (c .before .before .before .before .before .before .before .before .args .scan) _ (sym (c .before .before .before .before .before .before .before .at-limit .ensures) ∙ c .before .before .before .before .before .before .if1 .left) _ (c .before .before .before .before .p .given .1) (rw (c .before .before .is-plain .ensures) at (c .before .if2 .taken)))
+    (window-quick (c .before .before .before .before .before .before .before .before .args .scan) _ (sym (c .before .before .before .before .before .before .before .at-limit .ensures) ∙ c .before .before .before .before .before .before .if1 .left) _ (c .before .before .before .before .p .given .1) (not-false _ (rw (c .before .before .is-plain .ensures) at (c .before .if2 .left))))
 
-sub-t21 : tie.Need-sub-t21
-sub-t21 c = omega (arith, ltb-true 0 (c .before .before .before .p2 .given .0 .0) (and-left _ _ (c .if3 .taken)))
-
-returns-3 : tie.Need-returns-3
-returns-3 c =
+returns-6 : tie.Need-returns-6
+returns-6 c =
     rw (c .moved2 .ensures)
-    (raw-quick (c .before .before .before .before .before .before .before .before .args .scan) _ (sym (c .before .before .before .before .before .before .before .at-limit .ensures) ∙ c .before .before .before .before .before .before .if1 .left) _ (c .before .before .before .before .p2 .given .1) (rw (c .before .before .is-plain2 .ensures) at (c .before .if3 .taken)))
+    (raw-quick (c .before .before .before .before .before .before .before .before .args .scan) _ (sym (c .before .before .before .before .before .before .before .at-limit .ensures) ∙ c .before .before .before .before .before .before .if1 .left) _ (c .before .before .before .before .p2 .given .1) (not-false _ (rw (c .before .before .is-plain2 .ensures) at (c .before .if3 .left))))
 
 pub glance-spec : {M : Type 1} → statement M
 glance-spec =
@@ -37,15 +37,15 @@ glance-spec =
     measure-requires
     (λ c. search needs)
     (λ c κs. search needs)
-    sub-t14
+    (λ c. search needs)
+    sub-t15
     (λ c κs. search needs)
-    returns-2
     (λ c. search needs)
     (λ c κs. search needs)
-    sub-t21
+    (λ c. search needs)
+    sub-t23
     (λ c κs. search needs)
-    returns-3
     (λ c. search needs)
-    (λ c. search needs)
-    (λ c. search needs)
+    returns-5
+    returns-6
     (λ c. search needs))
