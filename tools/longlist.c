@@ -45,27 +45,27 @@ static int read_all(struct bytes *input)
     return 1;
 }
 
-/* Writes the text of n bytes. */
-static int write_text(const uint8_t *bytes, size_t n, struct bytes *text)
+/* Writes the text of n bytes, of which so many words are accepted. With room for the longest, 23 characters a word and
+   22 for a refusal, the library need not count a whole block's text first. */
+static int write_text(const uint8_t *bytes, size_t n, size_t words, struct bytes *text)
 {
+    size_t longest = 23 * words + 22;
+    if (longest > text->room && !grow(text, longest))
+        return 0;
     text->length = fadc250_list(bytes, n, text->at, text->room);
-    if (text->length > text->room) {
-        if (!grow(text, text->length))
-            return 0;
-        fadc250_list(bytes, n, text->at, text->room);
-    }
     return fwrite(text->at, 1, text->length, stdout) == text->length || failed("cannot write");
 }
 
 int main(void)
 {
     struct bytes input = {0}, text = {0};
-    if (!grow(&text, PIECE) || !read_all(&input))
+    if (!read_all(&input))
         return 1;
     for (size_t at = 0, n; at < input.length; at += n) {
-        uint64_t words = fadc250_check(input.at + at, input.length - at);
-        n = words >> 32 == 0 ? 4 * (size_t)words : input.length - at; /* a refused block is the last */
-        if (!write_text(input.at + at, n, &text))
+        uint64_t answer = fadc250_check(input.at + at, input.length - at);
+        size_t words = (uint32_t)answer;
+        n = answer >> 32 == 0 ? 4 * words : input.length - at; /* a refused block is the last */
+        if (!write_text(input.at + at, n, words, &text))
             return 1;
     }
     return fflush(stdout) == 0 || failed("cannot write") ? 0 : 1;

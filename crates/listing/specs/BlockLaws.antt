@@ -109,6 +109,11 @@ module _ {text₀ : List ℕ} {at : ℕ} {r : Reading} {text : List ℕ} {k n i 
   left-took bytes t {x} l p e =
       left-less l (p ∙ ap (λ (b : List ℕ). put (text, k) (textOf (recordLines x ((readFrom t (wordsOfBytes b)) .items)))) (tail-is bytes (i + 4))) e
 
+  -- a record of one line, and no filler, is put
+  pub left-line : {x : Item} {rest : Reading} {text′ : List ℕ} {k′ : ℕ} (l : Line) → Left text₀ at r text k n i (then x rest)
+      → _≡_ {A = Page} (text′, k′) (put (text, k) (lineText l)) → recordLines x (rest .items) ≡ l ∷ [] → fillerIn x ≡ 0 → Left text₀ at r text′ k′ n (i + 4) rest
+  left-line l h p e f = rw (add-zero n) at (left-less h (say-one _ _ _ l p e) (sym f))
+
   -- nothing is left but the block's end
   pub left-none : {o : Out} {b : Block} {text′ : List ℕ} → Left text₀ at r text k n i (just o) → BlockSays text k (fillLines n ++ outLines o) i o b text′ → ReadingSays text₀ at r b text′
   unfolding itemLines fillersIn

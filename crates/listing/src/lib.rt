@@ -9,9 +9,12 @@ ghost use Rattle.text.specs.Line.{textOf};
 ghost use Rattle.lines.specs.Lines.{fillLines};
 ghost use Rattle.listing.specs.Listing.{outLines, linesFrom, linesUnless, listingOf, longListingOf};
 ghost use Rattle.listing.specs.Says.{BlockSays, ReadingSays, ListSays, LongSays};
+use quick::Quick;
 use reader::Judged;
 use refusals::Refusal;
 use scan::Scan;
+
+mod quick;
 
 // The most bytes of an input of the lister.
 pub const LONGEST: usize = 65536;
@@ -60,7 +63,15 @@ fn list_block(bytes: &[u8], text: &mut [u8], from: usize) -> Block
     let mut at = from;
     let mut fillers: u64 = 0;
     while 4 <= bytes.len() - next {
-        let judged = reader::judge_at(scan, entries::first_word(&bytes[next..]));
+        let word = entries::first_word(&bytes[next..]);
+        let glance = quick::glance(scan, word);
+        if let Quick::Took(kind, after) = glance {
+            at = quick::put_quick(text, at, kind, word);
+            next += 4;
+            scan = after;
+            continue;
+        }
+        let judged = reader::judge_at(scan, word);
         match judged {
             Judged::Took(item, after) => {
                 next += 4;
