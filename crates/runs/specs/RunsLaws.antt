@@ -210,6 +210,12 @@ events-more {words} {slot} {k} {left} {m} {some} {r} {rest} a b =
           a .same place (omega arith) ∙ b .same (place + (m - k)) (omega arith) ∙ ap (λ (n : ℕ). checkFrom (standing n slot rest P.Items) (drop r words)) z);
     }
 
+-- by the second time word
+pub size-high : (low high : ℕ) {b : Bool} → isContinuation low ≡ false → isDefining 3 low ≡ true → isContinuation high ≡ true
+    → triggerTimeHighFixed high && eqb (read 23 0 high % 8) (read 26 24 low) ≡ b → cond b 3 0 ≡ headSize low high
+unfolding headSize
+size-high low high p q r e = rw (p, q, r, e)
+
 pub head-none : (words : List ℕ) (slot k : ℕ) → HeadTo words slot k k
 head-none words slot k = record { ahead = omega arith; event = λ h. absurd (omega arith) }
 

@@ -28,7 +28,7 @@ word-is bytes k h =
     ap (λ (n : ℕ). getD (wordsOfBytes bytes) n 0) (sym z)
     ∙ sym (getD-drop k (wordsOfBytes bytes) 0 0)
     ∙ ap (λ (l : List ℕ). getD l 0 0) (sym (words-drop k bytes) ∙ words-some (drop (4 * k) bytes) (omega (arith, length-drop (4 * k) bytes)))
-    ∙ rw (getD-drop, getD-drop, getD-drop, getD-drop, y)
+    ∙ rw (getD-drop (4 * k) bytes 0 0, getD-drop (4 * k) bytes 1 0, getD-drop (4 * k) bytes 2 0, getD-drop (4 * k) bytes 3 0, y)
 
 -- past the end there is none
 pub word-none : (bytes : List ℕ) (k : ℕ) → length bytes / 4 ≤ k → getD (wordsOfBytes bytes) k 0 ≡ 0

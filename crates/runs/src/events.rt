@@ -46,14 +46,11 @@ fn head_end(bytes: &[u8], k: usize, end: usize, slot: u32) -> usize
     }
     let head = crate::joined_at(bytes, k);
     if EventHeader::is(head) & (fields::take(head, 22, 5) == slot) {
-        k
-            + head_size(
-                crate::joined_at(bytes, k + 1),
-                crate::joined_at(bytes, k + 2),
-            )
-    } else {
-        k
+        let low = crate::joined_at(bytes, k + 1);
+        let high = crate::joined_at(bytes, k + 2);
+        return k + head_size(low, high);
     }
+    k
 }
 
 // The items that stand here, and event by event as long as the head of one is passed.

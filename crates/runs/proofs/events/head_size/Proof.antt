@@ -4,6 +4,7 @@ use native.Mathlib.Omega.{arith}
 use borrow.Author.Needs.{needs}
 use borrow.Author.Tests.{not-true, not-false}
 use Rattle.runs.specs.Runs.{headSize}
+use Rattle.runs.specs.RunsLaws.{size-high}
 use Rattle.runs.proofs.events.head_size.Statement.{statement}
 use Rattle.runs.proofs.events.head_size.Tie as tie
 
@@ -27,30 +28,24 @@ returns-3 c = (
 )
 
 returns-4 : tie.Need-returns-4
-unfolding headSize
-returns-4 c =
-    let both = rw (c .before .fixed .ensures, c .before .before .before .take .ensures, c .before .before .take2 .ensures) at (c .if4 .taken) in (
-      omega arith,
-      rw (
-        sym (c .before .before .before .before .before .before .before .before .before .is .ensures) ∙ c .before .before .before .before .before .before .before .before .if1 .left,
-        sym (c .before .before .before .before .before .before .before .is2 .ensures) ∙ not-false _ (c .before .before .before .before .before .before .if2 .left),
-        sym (c .before .before .before .before .before .is3 .ensures) ∙ not-false _ (c .before .before .before .before .if3 .left),
-        both,
-      ),
-    )
+returns-4 c = (
+  omega arith,
+  size-high _ _
+      (sym (c .before .before .before .before .before .before .before .before .before .is .ensures) ∙ c .before .before .before .before .before .before .before .before .if1 .left)
+      (sym (c .before .before .before .before .before .before .before .is2 .ensures) ∙ not-false _ (c .before .before .before .before .before .before .if2 .left))
+      (sym (c .before .before .before .before .before .is3 .ensures) ∙ not-false _ (c .before .before .before .before .if3 .left))
+      (rw (c .before .fixed .ensures, c .before .before .before .take .ensures, c .before .before .take2 .ensures) at (c .if4 .taken)),
+)
 
 returns-5 : tie.Need-returns-5
-unfolding headSize
-returns-5 c =
-    let both = rw (c .before .fixed .ensures, c .before .before .before .take .ensures, c .before .before .take2 .ensures) at (c .if4 .left) in (
-      omega arith,
-      rw (
-        sym (c .before .before .before .before .before .before .before .before .before .is .ensures) ∙ c .before .before .before .before .before .before .before .before .if1 .left,
-        sym (c .before .before .before .before .before .before .before .is2 .ensures) ∙ not-false _ (c .before .before .before .before .before .before .if2 .left),
-        sym (c .before .before .before .before .before .is3 .ensures) ∙ not-false _ (c .before .before .before .before .if3 .left),
-        both,
-      ),
-    )
+returns-5 c = (
+  omega arith,
+  size-high _ _
+      (sym (c .before .before .before .before .before .before .before .before .before .is .ensures) ∙ c .before .before .before .before .before .before .before .before .if1 .left)
+      (sym (c .before .before .before .before .before .before .before .is2 .ensures) ∙ not-false _ (c .before .before .before .before .before .before .if2 .left))
+      (sym (c .before .before .before .before .before .is3 .ensures) ∙ not-false _ (c .before .before .before .before .if3 .left))
+      (rw (c .before .fixed .ensures, c .before .before .before .take .ensures, c .before .before .take2 .ensures) at (c .if4 .left)),
+)
 
 pub head-size-spec : {M : Type 1} → statement M
 head-size-spec = tie.close (tie.spec (λ c κs. search needs) returns (λ c κs. search needs) returns-2 (λ c κs. search needs) returns-3 (λ c κs. search needs) (λ c κs. search needs) (λ c κs. search needs) returns-4 returns-5)

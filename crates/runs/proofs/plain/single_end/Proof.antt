@@ -8,7 +8,7 @@ use Rattle.runs.proofs.plain.single_end.Tie as tie
 
 returns : tie.Need-returns
 unfolding single
-returns c = (omega arith, all-one (all-none _) (rw (← c .before .before .before .joined-at .ensures, ← c .before .before .take .ensures, ← c .before .take2 .ensures) (c .if2 .taken)))
+returns c = (omega arith, all-one (all-none _) (rw (c .before .before .take .ensures, c .before .take2 .ensures, c .before .before .before .joined-at .ensures) at (c .if2 .taken)))
 
 returns-2 : tie.Need-returns-2
 returns-2 c = (omega arith, all-none _)
