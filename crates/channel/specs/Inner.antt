@@ -1,9 +1,10 @@
 -- What private functions of the channel writer say and ask; no public contract cites it. Assumes nothing.
 use Prim.Native.Nat.{ℕ, _+_, _*_, _≤_}
-use mathlib.Core.Bool.{Bool, cond, _&&_, _||_}
+use mathlib.Core.Bool.{Bool, true, cond, _&&_, _||_}
 use mathlib.Core.List.{List, [], _∷_}
 use lib.ListN.{length, take}
 use Rattle.limits.specs.Limits.{pairsOf}
+use Rattle.finder.specs.declared.Base.{Base}
 use Rattle.finder.specs.declared.Pulse.{Pulse}
 use Rattle.finder.specs.declared.Pulses.{Pulses}
 use Rattle.search.specs.Search.{anyOver}
@@ -11,6 +12,10 @@ use Rattle.finder.specs.RangeLaws.{EachFits}
 use Rattle.pulse.specs.declared.Parts.{Parts}
 use Rattle.pulse.specs.Pulse.{setLength, pulseLength}
 use Rattle.channel.specs.Channel.{Common, partsOf, pulsesOf}
+
+-- what stands where no time is asked
+abbrev pub noBase : Base
+noBase = record { early = true; low = 0 }
 
 -- the pulses that stand in the three places
 unfoldable pub listed : Pulses → List Pulse

@@ -1,6 +1,7 @@
 // The words of one channel, put into a lent buffer.
 mod count;
 
+use finder::Base;
 use items::Item;
 use items::put::room_short;
 use pulse::Parts;
@@ -15,11 +16,11 @@ ghost use lib.ListN.{length};
 ghost use Rattle.ground.specs.Splice.{Written, WrittenIf};
 ghost use Rattle.limits.specs.Limits.{mostSamples};
 ghost use Rattle.search.specs.Search.{anyOver, tcFrom};
-ghost use Rattle.finder.specs.Find.{pulsesFrom, searchable};
+ghost use Rattle.finder.specs.Find.{baseOf, pulsesFrom, searchable};
 ghost use Rattle.finder.specs.FindLaws.{Searched};
 ghost use Rattle.items.specs.Items.{wordOf, wordsOf};
 ghost use Rattle.channel.specs.Channel.{windowItems, partsOf, pulsesItems, commonOf, channelItems, channelWords};
-ghost use Rattle.channel.specs.Inner.{limitFor, channelLength, modeMost};
+ghost use Rattle.channel.specs.Inner.{noBase, limitFor, channelLength, modeMost};
 
 fn writing(window: bool, raw: bool, integral: bool, time: bool, high: bool, pedestal: bool) -> Parts
     ensures { λ r. ⌜ r ≡ record { window = window; raw = raw; integral = integral; time = time; high = high; pedestal = pedestal } ⌝ }
@@ -61,6 +62,20 @@ fn tc_after(first: usize, row: &[u16], threshold: u32, s: usize) -> usize
     }
 }
 
+// The base of the times, where the mode writes one.
+fn base_if(on: bool, row: &[u16], threshold: u32) -> Base
+    ensures { λ r. ⌜ r ≡ cond on (baseOf (now (row .entry)) threshold) noBase ⌝ }
+{
+    if on {
+        finder::base_of(row, threshold)
+    } else {
+        Base {
+            early: true,
+            low: 0,
+        }
+    }
+}
+
 // The pulses in order, each written as it is found, with no more of it than the mode writes.
 fn put_pulses(
     words: &mut [u32],
@@ -80,6 +95,7 @@ fn put_pulses(
 {
     let sums = parts.integral;
     let times = parts.high | parts.pedestal;
+    let base = base_if(times, row, threshold);
     let mut next = at;
     let mut i = 0;
     let mut s = 0;
@@ -88,7 +104,7 @@ fn put_pulses(
         if tc == 0 {
             return next;
         }
-        let pulse = finder::pulse_with(row, threshold, nsb, nsa, tc, sums, times);
+        let pulse = finder::pulse_with(row, threshold, nsb, nsa, tc, sums, times, base);
         next = pulse::put_pulse(words, next, parts, channel, row, i as u32, pulse);
         i += 1;
         s = tc + nsa;
