@@ -8,19 +8,18 @@ use pulse::Parts;
 use raw::window::WindowRaw;
 use settings::Settings;
 ghost use mathlib.Core.Path.{_≡_};
-ghost use mathlib.Core.Bool.{true, cond, _&&_};
-ghost use mathlib.Core.List.{[], _∷_};
+ghost use mathlib.Core.Bool.{true, cond};
+ghost use mathlib.Core.List.{[]};
 ghost use Prim.Native.Nat.{_+_, _≤_};
 ghost use lib.Dec.{ltb, leb};
 ghost use lib.ListN.{length};
 ghost use Rattle.ground.specs.Splice.{Written, WrittenIf};
 ghost use Rattle.limits.specs.Limits.{mostSamples};
-ghost use Rattle.search.specs.Search.{anyOver, tcFrom};
+ghost use Rattle.search.specs.Search.{tcFrom};
 ghost use Rattle.finder.specs.Find.{baseOf, pulsesFrom, searchable};
-ghost use Rattle.finder.specs.FindLaws.{Searched};
-ghost use Rattle.items.specs.Items.{wordOf, wordsOf};
-ghost use Rattle.channel.specs.Channel.{windowItems, partsOf, pulsesItems, commonOf, channelItems, channelWords};
-ghost use Rattle.channel.specs.Inner.{noBase, limitFor, channelLength, modeMost};
+ghost use Rattle.items.specs.Items.{wordsOf};
+ghost use Rattle.channel.specs.Channel.{windowItems, partsOf, pulsesItems, commonOf, channelItems, channelWords, modeMost};
+ghost use Rattle.channel.specs.Inner.{noBase, limitFor, channelLength};
 
 fn writing(window: bool, raw: bool, integral: bool, time: bool, high: bool, pedestal: bool) -> Parts
     ensures { λ r. ⌜ r ≡ record { window = window; raw = raw; integral = integral; time = time; high = high; pedestal = pedestal } ⌝ }
@@ -89,7 +88,7 @@ fn put_pulses(
     row: &[u16],
     first: usize,
 ) -> usize
-    requires { ⌜ Searched (length (now row)) nsa limit × (first ≡ tcFrom (now row) threshold 0) ⌝ }
+    requires { ⌜ (searchable (length (now row)) nsa limit ≡ true) × (first ≡ tcFrom (now row) threshold 0) ⌝ }
     requires { ⌜ at + length (pulsesItems parts channel (now row) 0 (pulsesFrom (now row) threshold nsb nsa limit 0)) ≤ length (now words) ⌝ }
     ensures { λ r. ⌜ Written (now (words .entry)) at (wordsOf (pulsesItems parts channel (now (row .entry)) 0 (pulsesFrom (now (row .entry)) threshold nsb nsa limit 0))) r (now (words .exit)) ⌝ }
 {
@@ -150,7 +149,7 @@ fn put_found(
     row: &[u16],
     first: usize,
 ) -> usize
-    requires { ⌜ Searched (length (now row)) nsa limit × (first ≡ tcFrom (now row) threshold 0) × (1 ≤ first) ⌝ }
+    requires { ⌜ (searchable (length (now row)) nsa limit ≡ true) × (first ≡ tcFrom (now row) threshold 0) × (1 ≤ first) ⌝ }
     requires { ⌜ at + length (channelItems (record { mode = mode; nsb = nsb; nsa = nsa; limit = limit }) threshold channel (now row)) ≤ length (now words) ⌝ }
     ensures { λ r. ⌜ Written (now (words .entry)) at (channelWords (record { mode = mode; nsb = nsb; nsa = nsa; limit = limit }) threshold channel (now (row .entry))) r (now (words .exit)) ⌝ }
 {
@@ -180,7 +179,7 @@ fn count_found(
     threshold: u32,
     row: &[u16],
 ) -> usize
-    requires { ⌜ Searched (length (now row)) nsa limit × (1 ≤ tcFrom (now row) threshold 0) ⌝ }
+    requires { ⌜ (searchable (length (now row)) nsa limit ≡ true) × (1 ≤ tcFrom (now row) threshold 0) ⌝ }
     ensures { λ r. ⌜ r ≡ channelLength (record { mode = mode; nsb = nsb; nsa = nsa; limit = limit }) threshold (now (row .entry)) ⌝ }
 {
     let parts = parts_of(mode);
@@ -213,7 +212,7 @@ fn channel_short(
     threshold: u32,
     row: &[u16],
 ) -> bool
-    requires { ⌜ Searched (length (now row)) nsa limit × (1 ≤ tcFrom (now row) threshold 0) ⌝ }
+    requires { ⌜ (searchable (length (now row)) nsa limit ≡ true) × (1 ≤ tcFrom (now row) threshold 0) ⌝ }
     ensures { λ r. ⌜ r ≡ ltb room (at + channelLength (record { mode = mode; nsb = nsb; nsa = nsa; limit = limit }) threshold (now (row .entry))) ⌝ }
 {
     if !room_short(room, at, most_words(mode, row.len())) {
