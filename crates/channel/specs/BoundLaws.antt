@@ -8,7 +8,7 @@ use native.Mathlib.Nat.{le-trans, mul-le-mul-right}
 use lib.Dec.{eqb}
 use lib.ListN.{length}
 use Rattle.settings.specs.declared.Settings.{Settings}
-use Rattle.limits.specs.Limits.{mostSamples, pairsOf, mostRaw, mostPulse, mostChannel}
+use Rattle.limits.specs.Limits.{mostSamples, pairsOf, mostPulse, mostChannel}
 use Rattle.limits.specs.LimitsLaws.{most-raw, raw-is, pulse-is, channel-is, pairs-is, pairs-most}
 use Rattle.finder.specs.declared.Pulse.{Pulse}
 use Rattle.finder.specs.declared.Pulses.{Pulses}
@@ -17,9 +17,9 @@ use Rattle.finder.specs.Find.{searchable}
 use Rattle.finder.specs.FindLaws.{Searched, searched}
 use Rattle.finder.specs.RangeLaws.{PulseFits, EachFits, pulses-fit, pulses-count}
 use Rattle.pulse.specs.declared.Parts.{Parts}
-use Rattle.pulse.specs.Pulse.{oneIf, setLength, pulseLength}
-use Rattle.channel.specs.Channel.{modeTable, rowOfMode, partsOf, Common, commonOf, pulsesOf}
-use Rattle.channel.specs.Inner.{listed, InWindow, pulsesLength, channelLength, partsMost, modeMost}
+use Rattle.pulse.specs.Pulse.{setLength, pulseLength}
+use Rattle.channel.specs.Channel.{modeTable, rowOfMode, partsOf, Common, commonOf, pulsesOf, partsMost, modeMost}
+use Rattle.channel.specs.Inner.{listed, InWindow, pulsesLength, channelLength}
 use Rattle.channel.specs.InnerLaws.{length-listed}
 
 cond-le : (b : Bool) (x y : ℕ) → x ≤ y → cond b x 0 ≤ cond b y 0

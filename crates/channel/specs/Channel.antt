@@ -1,9 +1,10 @@
 -- What one channel writes: document 01, "The words", as lists of records. Assumes nothing.
-use Prim.Native.Nat.{ℕ, _+_}
+use Prim.Native.Nat.{ℕ, _+_, _*_}
 use mathlib.Core.Bool.{Bool, true, false, cond, _&&_}
 use mathlib.Core.List.{List, [], _∷_, _++_}
 use lib.ListN.{length}
 use lib.Dec.{eqb}
+use Rattle.limits.specs.Limits.{pairsOf}
 use Rattle.settings.specs.declared.Settings.{Settings}
 use Rattle.finder.specs.declared.Pulse.{Pulse}
 use Rattle.search.specs.Search.{anyOver}
@@ -13,7 +14,7 @@ use Rattle.items.specs.Items.{wordsOf}
 use Rattle.items.specs.declared.Item.{Item}
 use Rattle.items.specs.declared.Item.the-variants as I
 use Rattle.pulse.specs.declared.Parts.{Parts}
-use Rattle.pulse.specs.Pulse.{pulseItems}
+use Rattle.pulse.specs.Pulse.{pulseItems, setLength}
 
 -- ---- samples
 
@@ -76,7 +77,16 @@ channelItems s t c w =
 abbrev pub channelWords : Common → ℕ → ℕ → List ℕ → List ℕ
 channelWords s t c w = wordsOf (channelItems s t c w)
 
+-- ---- how many words at most
+
+-- no channel of n samples takes more: its window, and of each of three pulses what the mode writes where the data set is as long
+abbrev pub partsMost : Parts → ℕ → ℕ
+partsMost m n = cond (m .window) (1 + pairsOf n) 0 + 3 * setLength m n
+
+unfoldable pub modeMost : ℕ → ℕ → ℕ
+modeMost mode n = partsMost (partsOf mode) n
+
 -- a proof that computes opens this file and what it leans on by one name
 unfoldable pub allOpen : Unit {0}
-unfolding windowItems partsOf pulsesItems channelItems Rattle.search.specs.Search.allOpen Rattle.finder.specs.Find.allOpen Rattle.items.specs.Items.allOpen Rattle.pulse.specs.Pulse.allOpen
+unfolding windowItems partsOf pulsesItems channelItems modeMost Rattle.search.specs.Search.allOpen Rattle.finder.specs.Find.allOpen Rattle.items.specs.Items.allOpen Rattle.pulse.specs.Pulse.allOpen
 allOpen = tt

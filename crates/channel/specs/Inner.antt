@@ -1,16 +1,21 @@
 -- What private functions of the channel writer say and ask; no public contract cites it. Assumes nothing.
-use Prim.Native.Nat.{ℕ, _+_, _*_, _≤_}
-use mathlib.Core.Bool.{Bool, cond, _&&_, _||_}
+use Prim.Native.Nat.{ℕ, _+_, _≤_}
+use mathlib.Core.Bool.{Bool, true, cond, _&&_, _||_}
 use mathlib.Core.List.{List, [], _∷_}
 use lib.ListN.{length, take}
 use Rattle.limits.specs.Limits.{pairsOf}
+use Rattle.finder.specs.declared.Base.{Base}
 use Rattle.finder.specs.declared.Pulse.{Pulse}
 use Rattle.finder.specs.declared.Pulses.{Pulses}
 use Rattle.search.specs.Search.{anyOver}
 use Rattle.finder.specs.RangeLaws.{EachFits}
 use Rattle.pulse.specs.declared.Parts.{Parts}
-use Rattle.pulse.specs.Pulse.{setLength, pulseLength}
+use Rattle.pulse.specs.Pulse.{pulseLength}
 use Rattle.channel.specs.Channel.{Common, partsOf, pulsesOf}
+
+-- what stands where no time is asked
+abbrev pub noBase : Base
+noBase = record { early = true; low = 0 }
 
 -- the pulses that stand in the three places
 unfoldable pub listed : Pulses → List Pulse
@@ -39,10 +44,3 @@ pulsesLength m (p ∷ ps) = pulseLength m p + pulsesLength m ps
 unfoldable pub channelLength : Common → ℕ → List ℕ → ℕ
 channelLength s t w =
     cond (partsOf (s .mode) .window && anyOver w t) (1 + pairsOf (length w)) 0 + pulsesLength (partsOf (s .mode)) (pulsesOf s t w)
-
--- no channel of n samples takes more: its window, and of each of three pulses what the mode writes where the data set is as long
-abbrev pub partsMost : Parts → ℕ → ℕ
-partsMost m n = cond (m .window) (1 + pairsOf n) 0 + 3 * setLength m n
-
-unfoldable pub modeMost : ℕ → ℕ → ℕ
-modeMost mode n = partsMost (partsOf mode) n

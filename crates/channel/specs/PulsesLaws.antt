@@ -1,6 +1,6 @@
 -- A loop that writes the pulses as it finds them, with no more of each than the mode writes. Assumes nothing.
 use Prim.Native.Nat.{ℕ, suc, _+_, _-_, _≤_, _<_}
-use mathlib.Core.Path.{_≡_, refl, sym, ap, ap₂, _∙_}
+use mathlib.Core.Path.{_≡_, refl, ap, ap₂, _∙_}
 use mathlib.Core.Bool.{Bool, true, false, cond, _&&_, _||_}
 use mathlib.Core.List.{List, [], _++_}
 use native.Mathlib.Omega.{arith}
@@ -11,10 +11,11 @@ use Rattle.ground.specs.WritingLaws.{Left}
 use Rattle.search.specs.Search.{tcFrom}
 use Rattle.search.specs.Asked.{IsOver}
 use Rattle.search.specs.SearchLaws.{tc-over}
+use Rattle.finder.specs.declared.Base.{Base}
 use Rattle.finder.specs.declared.Pulse.{Pulse}
-use Rattle.finder.specs.Find.{pulseAt, pulseWith, isTc, pulsesFrom, noPulse, searchable}
+use Rattle.finder.specs.Find.{baseOf, pulseAt, pulseWith, pulseFrom, isTc, pulsesFrom, noPulse, searchable}
 use Rattle.finder.specs.FindLaws.{Searched, can-search, tc-is}
-use Rattle.finder.specs.RangeLaws.{with-fits}
+use Rattle.finder.specs.RangeLaws.{with-fits, from-with}
 use Rattle.items.specs.declared.Item.{Item}
 use Rattle.items.specs.Items.{wordsOf, itemIf}
 use Rattle.items.specs.ItemsLaws.{put-written, loop-room, loop-less, loop-none}
@@ -22,6 +23,7 @@ use Rattle.pulse.specs.declared.Parts.{Parts}
 use Rattle.pulse.specs.Pulse.{setOf, rawItems, integralItem, timeItem, pedestalItem, pulseItems, fitsIn}
 use Rattle.pulse.specs.PulseLaws.{fits-in}
 use Rattle.channel.specs.Channel.{pulsesItems}
+use Rattle.channel.specs.Inner.{noBase}
 
 -- ---- what the mode writes of a pulse is what it writes of all that can be asked of it
 
@@ -97,11 +99,13 @@ module _ (buf₀ : List ℕ) (at : ℕ) (m : Parts) (c : ℕ) (w : List ℕ) (t 
       over : IsOver w t tc
       over = tc-over w t s tc found some
 
-      pub pulse-less : (p : Pulse) → p ≡ cond (searchable (length w) nsa 0 && isTc w t tc) (pulseWith (m .integral) (m .high || m .pedestal) w t nsb nsa tc) noPulse
+      pub pulse-less : (b : Base) → b ≡ cond (m .high || m .pedestal) (baseOf w t) noBase
+          → (p : Pulse) → p ≡ cond (searchable (length w) nsa 0 && isTc w t tc) (pulseFrom (m .integral) (m .high || m .pedestal) w b nsb nsa tc) noPulse
           → (k′ : ℕ) (buf′ : List ℕ) → WrittenIf (fitsIn (length w) p) buf k (wordsOf (pulseItems m c w i p)) k′ buf′ → ToCome buf k i s → ToCome buf′ k′ (i + 1) (tc + nsa)
-      pulse-less p hp k′ buf′ wr l =
+      pulse-less b hb p hp k′ buf′ wr l =
           let can : searchable (length w) nsa 0 ≡ true = can-search _ _ _ (record { short = r .short; some = r .some; within = r .within; few = omega arith }) in
-          let is : p ≡ pulseWith (m .integral) (m .high || m .pedestal) w t nsb nsa tc = rw (can, tc-is w t tc over) at hp in
+          let of : p ≡ pulseFrom (m .integral) (m .high || m .pedestal) w b nsb nsa tc = rw (can, tc-is w t tc over) at hp in
+          let is : p ≡ pulseWith (m .integral) (m .high || m .pedestal) w t nsb nsa tc = of ∙ from-with (m .integral) (m .high || m .pedestal) w t nsb nsa tc b noBase over hb in
           let same : pulseItems m c w i p ≡ pulseItems m c w i (pulseAt w t nsb nsa tc) = ap (pulseItems m c w i) is ∙ same-items m c w t nsb nsa tc i in
           let l′ = rw turn at l in
           let room = loop-room buf₀ at (pulsesItems m c w 0 (pulsesFrom w t nsb nsa limit 0)) fits buf k (pulseItems m c w i (pulseAt w t nsb nsa tc)) _ l′ in

@@ -1,25 +1,25 @@
 // The words of one channel, put into a lent buffer.
 mod count;
 
+use finder::Base;
 use items::Item;
 use items::put::room_short;
 use pulse::Parts;
 use raw::window::WindowRaw;
 use settings::Settings;
 ghost use mathlib.Core.Path.{_≡_};
-ghost use mathlib.Core.Bool.{true, cond, _&&_};
-ghost use mathlib.Core.List.{[], _∷_};
+ghost use mathlib.Core.Bool.{true, cond};
+ghost use mathlib.Core.List.{[]};
 ghost use Prim.Native.Nat.{_+_, _≤_};
 ghost use lib.Dec.{ltb, leb};
 ghost use lib.ListN.{length};
 ghost use Rattle.ground.specs.Splice.{Written, WrittenIf};
 ghost use Rattle.limits.specs.Limits.{mostSamples};
-ghost use Rattle.search.specs.Search.{anyOver, tcFrom};
-ghost use Rattle.finder.specs.Find.{pulsesFrom, searchable};
-ghost use Rattle.finder.specs.FindLaws.{Searched};
-ghost use Rattle.items.specs.Items.{wordOf, wordsOf};
-ghost use Rattle.channel.specs.Channel.{windowItems, partsOf, pulsesItems, commonOf, channelItems, channelWords};
-ghost use Rattle.channel.specs.Inner.{limitFor, channelLength, modeMost};
+ghost use Rattle.search.specs.Search.{tcFrom};
+ghost use Rattle.finder.specs.Find.{baseOf, pulsesFrom, searchable};
+ghost use Rattle.items.specs.Items.{wordsOf};
+ghost use Rattle.channel.specs.Channel.{windowItems, partsOf, pulsesItems, commonOf, channelItems, channelWords, modeMost};
+ghost use Rattle.channel.specs.Inner.{noBase, limitFor, channelLength};
 
 fn writing(window: bool, raw: bool, integral: bool, time: bool, high: bool, pedestal: bool) -> Parts
     ensures { λ r. ⌜ r ≡ record { window = window; raw = raw; integral = integral; time = time; high = high; pedestal = pedestal } ⌝ }
@@ -61,6 +61,20 @@ fn tc_after(first: usize, row: &[u16], threshold: u32, s: usize) -> usize
     }
 }
 
+// The base of the times, where the mode writes one.
+fn base_if(on: bool, row: &[u16], threshold: u32) -> Base
+    ensures { λ r. ⌜ r ≡ cond on (baseOf (now (row .entry)) threshold) noBase ⌝ }
+{
+    if on {
+        finder::base_of(row, threshold)
+    } else {
+        Base {
+            early: true,
+            low: 0,
+        }
+    }
+}
+
 // The pulses in order, each written as it is found, with no more of it than the mode writes.
 fn put_pulses(
     words: &mut [u32],
@@ -74,12 +88,13 @@ fn put_pulses(
     row: &[u16],
     first: usize,
 ) -> usize
-    requires { ⌜ Searched (length (now row)) nsa limit × (first ≡ tcFrom (now row) threshold 0) ⌝ }
+    requires { ⌜ (searchable (length (now row)) nsa limit ≡ true) × (first ≡ tcFrom (now row) threshold 0) ⌝ }
     requires { ⌜ at + length (pulsesItems parts channel (now row) 0 (pulsesFrom (now row) threshold nsb nsa limit 0)) ≤ length (now words) ⌝ }
     ensures { λ r. ⌜ Written (now (words .entry)) at (wordsOf (pulsesItems parts channel (now (row .entry)) 0 (pulsesFrom (now (row .entry)) threshold nsb nsa limit 0))) r (now (words .exit)) ⌝ }
 {
     let sums = parts.integral;
     let times = parts.high | parts.pedestal;
+    let base = base_if(times, row, threshold);
     let mut next = at;
     let mut i = 0;
     let mut s = 0;
@@ -88,7 +103,7 @@ fn put_pulses(
         if tc == 0 {
             return next;
         }
-        let pulse = finder::pulse_with(row, threshold, nsb, nsa, tc, sums, times);
+        let pulse = finder::pulse_with(row, threshold, nsb, nsa, tc, sums, times, base);
         next = pulse::put_pulse(words, next, parts, channel, row, i as u32, pulse);
         i += 1;
         s = tc + nsa;
@@ -134,7 +149,7 @@ fn put_found(
     row: &[u16],
     first: usize,
 ) -> usize
-    requires { ⌜ Searched (length (now row)) nsa limit × (first ≡ tcFrom (now row) threshold 0) × (1 ≤ first) ⌝ }
+    requires { ⌜ (searchable (length (now row)) nsa limit ≡ true) × (first ≡ tcFrom (now row) threshold 0) × (1 ≤ first) ⌝ }
     requires { ⌜ at + length (channelItems (record { mode = mode; nsb = nsb; nsa = nsa; limit = limit }) threshold channel (now row)) ≤ length (now words) ⌝ }
     ensures { λ r. ⌜ Written (now (words .entry)) at (channelWords (record { mode = mode; nsb = nsb; nsa = nsa; limit = limit }) threshold channel (now (row .entry))) r (now (words .exit)) ⌝ }
 {
@@ -164,7 +179,7 @@ fn count_found(
     threshold: u32,
     row: &[u16],
 ) -> usize
-    requires { ⌜ Searched (length (now row)) nsa limit × (1 ≤ tcFrom (now row) threshold 0) ⌝ }
+    requires { ⌜ (searchable (length (now row)) nsa limit ≡ true) × (1 ≤ tcFrom (now row) threshold 0) ⌝ }
     ensures { λ r. ⌜ r ≡ channelLength (record { mode = mode; nsb = nsb; nsa = nsa; limit = limit }) threshold (now (row .entry)) ⌝ }
 {
     let parts = parts_of(mode);
@@ -197,7 +212,7 @@ fn channel_short(
     threshold: u32,
     row: &[u16],
 ) -> bool
-    requires { ⌜ Searched (length (now row)) nsa limit × (1 ≤ tcFrom (now row) threshold 0) ⌝ }
+    requires { ⌜ (searchable (length (now row)) nsa limit ≡ true) × (1 ≤ tcFrom (now row) threshold 0) ⌝ }
     ensures { λ r. ⌜ r ≡ ltb room (at + channelLength (record { mode = mode; nsb = nsb; nsa = nsa; limit = limit }) threshold (now (row .entry))) ⌝ }
 {
     if !room_short(room, at, most_words(mode, row.len())) {

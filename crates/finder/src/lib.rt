@@ -11,8 +11,7 @@ ghost use Rattle.settings.specs.Ranges.{mostNsa, mostLimit};
 ghost use Rattle.samples.specs.Sample.{mostAmp};
 ghost use Rattle.search.specs.Search.{ampAt};
 ghost use Rattle.search.specs.Asked.{IsOver};
-ghost use Rattle.finder.specs.Find.{setFirst, setLast, integral, vmin, firstFall, n1, edgeTime, tcOnly, timeAt, pulseAt, pulseWith, isTc, pulsesFrom, noPulse, packed, searchable, findAll, ruleNumber};
-ghost use Rattle.finder.specs.Asked.{HasEdge};
+ghost use Rattle.finder.specs.Find.{setFirst, setLast, integral, vmin, firstFall, n1, edgeFrom, tcOnly, baseOf, timeFrom, timeAt, pulseAt, pulseFrom, isTc, pulsesFrom, noPulse, packed, searchable, findAll, ruleNumber};
 ghost use Rattle.finder.specs.declared.Rule.the-variants.{Early};
 
 // Which rule of the high-resolution time gave it: 1, 2, 3 and 4 in the paper's order.
@@ -30,6 +29,12 @@ pub struct Time {
     pub vmin: u32,
     pub vpeak: u32,
     pub rule: Rule,
+}
+
+// What the first four samples say of every time in the window: that rule 1 holds, or VMIN.
+pub struct Base {
+    pub early: bool,
+    pub low: u32,
 }
 
 // A pulse: its TC, the first and the last sample of its data set, the sum over the set before any cap, its time.
@@ -99,10 +104,28 @@ fn integral_of(window: &[u16], first: usize, last: usize) -> u32
 
 // A quarter of the sum of the first four.
 fn vmin_of(window: &[u16]) -> u32
-    requires { ⌜ (4 ≤ length (now window)) × (length (now window) ≤ mostSamples) ⌝ }
+    requires { ⌜ 4 ≤ length (now window) ⌝ }
     ensures { λ r. ⌜ r ≡ vmin (now (window .entry)) ⌝ }
 {
-    integral_of(window, 1, 4) / 4
+    let first = amp_at(window, 1);
+    let second = amp_at(window, 2);
+    let third = amp_at(window, 3);
+    let fourth = amp_at(window, 4);
+    (first + second + third + fourth) / 4
+}
+
+// It is the same for all pulses of a window.
+pub fn base_of(window: &[u16], threshold: u32) -> Base
+    ensures { λ r. ⌜ r ≡ baseOf (now (window .entry)) threshold ⌝ }
+{
+    if search::is_early(window, threshold) {
+        return Base {
+            early: true,
+            low: 0,
+        };
+    }
+    let low = vmin_of(window);
+    Base { early: false, low }
 }
 
 // The first sample after TC that is lower than its neighbour. The neighbour is kept, so each sample is read once.
@@ -138,25 +161,6 @@ fn n1_of(window: &[u16], vmid: u32, peak: usize) -> usize
     0
 }
 
-// Rule 4: the time at which the edge before the peak is half way up.
-fn edge_time(window: &[u16], low: u32, peak: usize) -> Time
-    requires { ⌜ HasEdge (now window) low peak ⌝ }
-    ensures { λ r. ⌜ r ≡ edgeTime (now (window .entry)) low peak ⌝ }
-{
-    let vpeak = amp_at(window, peak);
-    let vmid = (vpeak + low) / 2;
-    let n1 = n1_of(window, vmid, peak);
-    let from = amp_at(window, n1);
-    let to = amp_at(window, n1 + 1);
-    Time {
-        coarse: n1,
-        fine: 64 * (vmid - from) / (to - from),
-        vmin: low,
-        vpeak,
-        rule: Rule::Edge,
-    }
-}
-
 // Rules 1 to 3: the time is TC.
 fn tc_only(tc: usize, low: u32, rule: Rule) -> Time
     ensures { λ r. ⌜ r ≡ tcOnly tc low rule ⌝ }
@@ -170,24 +174,56 @@ fn tc_only(tc: usize, low: u32, rule: Rule) -> Time
     }
 }
 
-// The high-resolution time of the pulse at tc.
-fn time_at(window: &[u16], threshold: u32, tc: usize) -> Time
-    requires { ⌜ IsOver (now window) threshold tc ⌝ }
-    requires { ⌜ length (now window) ≤ mostSamples ⌝ }
-    ensures { λ r. ⌜ r ≡ timeAt (now (window .entry)) threshold tc ⌝ }
+// Rule 4: the time at which the edge before the peak is half way up. By a base of another window there may be none: as in rule 3.
+fn edge_time(window: &[u16], low: u32, tc: usize, peak: usize) -> Time
+    requires { ⌜ (1 ≤ peak) × (peak ≤ length (now window)) ⌝ }
+    ensures { λ r. ⌜ r ≡ edgeFrom (now (window .entry)) low tc peak ⌝ }
 {
-    if search::is_early(window, threshold) {
+    let vpeak = amp_at(window, peak);
+    if vpeak <= low {
+        return tc_only(tc, low, Rule::Flat);
+    }
+    let vmid = (vpeak + low) / 2;
+    let n1 = n1_of(window, vmid, peak);
+    if n1 == 0 {
+        return tc_only(tc, low, Rule::Flat);
+    }
+    let from = amp_at(window, n1);
+    let to = amp_at(window, n1 + 1);
+    Time {
+        coarse: n1,
+        fine: 64 * (vmid - from) / (to - from),
+        vmin: low,
+        vpeak,
+        rule: Rule::Edge,
+    }
+}
+
+// The high-resolution time of the pulse at tc, by a base.
+fn time_from(window: &[u16], base: Base, tc: usize) -> Time
+    requires { ⌜ (1 ≤ tc) × (tc ≤ length (now window)) ⌝ }
+    ensures { λ r. ⌜ r ≡ timeFrom (now (window .entry)) base tc ⌝ }
+{
+    if base.early {
         return tc_only(tc, 0, Rule::Early);
     }
-    let low = vmin_of(window);
     if window.len() - tc < 5 {
-        return tc_only(tc, low, Rule::Late);
+        return tc_only(tc, base.low, Rule::Late);
     }
     let fall = first_fall(window, tc);
     if fall == 0 {
-        return tc_only(tc, low, Rule::Flat);
+        return tc_only(tc, base.low, Rule::Flat);
     }
-    edge_time(window, low, fall - 1)
+    edge_time(window, base.low, tc, fall - 1)
+}
+
+// The same by the window's own.
+fn time_at(window: &[u16], threshold: u32, tc: usize) -> Time
+    requires { ⌜ IsOver (now window) threshold tc ⌝ }
+    ensures { λ r. ⌜ r ≡ timeAt (now (window .entry)) threshold tc ⌝ }
+{
+    let base = base_of(window, threshold);
+    time_from(window, base, tc)
 }
 
 // The pulse at tc.
@@ -220,13 +256,12 @@ fn sum_if(on: bool, window: &[u16], first: usize, last: usize) -> u32
     }
 }
 
-fn time_if(on: bool, window: &[u16], threshold: u32, tc: usize) -> Time
-    requires { ⌜ IsOver (now window) threshold tc ⌝ }
-    requires { ⌜ length (now window) ≤ mostSamples ⌝ }
-    ensures { λ r. ⌜ r ≡ cond on (timeAt (now (window .entry)) threshold tc) (tcOnly tc 0 Early) ⌝ }
+fn time_if(on: bool, window: &[u16], base: Base, tc: usize) -> Time
+    requires { ⌜ (1 ≤ tc) × (tc ≤ length (now window)) ⌝ }
+    ensures { λ r. ⌜ r ≡ cond on (timeFrom (now (window .entry)) base tc) (tcOnly tc 0 Early) ⌝ }
 {
     if on {
-        time_at(window, threshold, tc)
+        time_from(window, base, tc)
     } else {
         tc_only(tc, 0, Rule::Early)
     }
@@ -308,7 +343,7 @@ fn is_tc(window: &[u16], threshold: u32, tc: usize) -> bool
     samples::over(threshold, window[tc - 1])
 }
 
-// One pulse alone, for a caller that found its TC, with no more of it than is asked: its sum, its high-resolution time.
+// One pulse alone, for a caller that found its TC and the base of its window, with no more of it than is asked: its sum, its high-resolution time.
 // Not shared with `pulse_at`: a function of one caller is compiled in its place.
 pub fn pulse_with(
     window: &[u16],
@@ -318,8 +353,9 @@ pub fn pulse_with(
     tc: usize,
     sums: bool,
     times: bool,
+    base: Base,
 ) -> Pulse
-    ensures { λ r. ⌜ r ≡ cond (searchable (length (now (window .entry))) nsa 0 && isTc (now (window .entry)) threshold tc) (pulseWith sums times (now (window .entry)) threshold nsb nsa tc) noPulse ⌝ }
+    ensures { λ r. ⌜ r ≡ cond (searchable (length (now (window .entry))) nsa 0 && isTc (now (window .entry)) threshold tc) (pulseFrom sums times (now (window .entry)) base nsb nsa tc) noPulse ⌝ }
 {
     if !(can_search(window.len(), nsa, 0) & is_tc(window, threshold, tc)) {
         return no_pulse();
@@ -327,7 +363,7 @@ pub fn pulse_with(
     let first = set_first(tc, nsb);
     let last = set_last(tc, nsa, window.len());
     let sum = sum_if(sums, window, first, last);
-    let time = time_if(times, window, threshold, tc);
+    let time = time_if(times, window, base, tc);
     Pulse {
         tc,
         first,

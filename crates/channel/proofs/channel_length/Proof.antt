@@ -34,7 +34,7 @@ returns-2 c =
 count-found-requires : tie.Need-count-found-requires
 count-found-requires c κs =
     let a = start (c .before .before) .args in
-    (searched _ _ _ (asked (c .before .before)), ltb-true 0 (tcFrom (a .row .now) (a .threshold) 0) (sym (any-first (a .row .now) (a .threshold)) ∙ sym (c .before .any-over .ensures) ∙ not-false _ (c .if2 .left)))
+    (asked (c .before .before), ltb-true 0 (tcFrom (a .row .now) (a .threshold) 0) (sym (any-first (a .row .now) (a .threshold)) ∙ sym (c .before .any-over .ensures) ∙ not-false _ (c .if2 .left)))
 
 returns-3 : tie.Need-returns-3
 returns-3 c =

@@ -1,10 +1,10 @@
 -- `channel::count_found` meets its contract: the count of what the finder gives.
-use mathlib.Core.Path.{_≡_}
 use native.Mathlib.Omega.{arith}
 use borrow.Author.Needs.{needs}
 use lib.ListN.{length}
 use Rattle.limits.specs.LimitsLaws.{most-raw, most-pulse}
 use Rattle.pairs.specs.PairsLaws.{run-most}
+use Rattle.finder.specs.FindLaws.{searched}
 use Rattle.channel.specs.Channel.{Common}
 use Rattle.channel.specs.InnerLaws.{IsFound, is-found, channel-counted}
 use Rattle.channel.proofs.count_found.Statement.{statement}
@@ -20,10 +20,10 @@ module _ (c : tie.After-pulses-of) where
 
   found : IsFound common (start .args .threshold) (start .args .row .now) (c .before .before .parts-of .result) (c .pulses-of .result)
   unfolding common
-  found = is-found common _ _ _ _ (start .pre .0) (rw (c .before .limit-for .ensures) at (c .pulses-of .ensures))
+  found = is-found common _ _ _ _ (searched _ _ _ (start .pre .0)) (rw (c .before .limit-for .ensures) at (c .pulses-of .ensures))
 
 pulses-length-requires : tie.Need-pulses-length-requires
-pulses-length-requires c κs = (found (c .before) .inside, start (c .before) .pre .0 .short)
+pulses-length-requires c κs = (found (c .before) .inside, searched _ _ _ (start (c .before) .pre .0) .short)
 
 add-result : tie.Need-add-result
 add-result c =
@@ -33,7 +33,7 @@ add-result c =
       most-raw,
       most-pulse,
       c .before .run-length-if .ensures,
-      run-most (c .before .before .before .before .parts-of .result .window) (length (s .args .row .now)) (s .pre .0 .short),
+      run-most (c .before .before .before .before .parts-of .result .window) (length (s .args .row .now)) (searched _ _ _ (s .pre .0) .short),
       c .pulses-length .ensures .1,
     )
 

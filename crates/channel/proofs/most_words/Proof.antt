@@ -1,12 +1,12 @@
 -- `channel::most_words` meets its contract.
-use Prim.Native.Nat.{ℕ, _+_, _*_, _≤_}
-use mathlib.Core.Path.{_≡_, sym}
+use Prim.Native.Nat.{_+_, _*_, _≤_}
+use mathlib.Core.Path.{_≡_}
 use native.Mathlib.Omega.{arith}
 use borrow.Author.Needs.{needs}
 use borrow.Author.Tests.{le-leb, lt-leb}
 use Rattle.limits.specs.Limits.{mostSamples}
 use Rattle.limits.specs.LimitsLaws.{most-samples, most-channel}
-use Rattle.channel.specs.Inner.{modeMost}
+use Rattle.channel.specs.Channel.{modeMost}
 use Rattle.channel.specs.BoundLaws.{mode-most}
 use Rattle.channel.proofs.most_words.Statement.{statement}
 use Rattle.channel.proofs.most_words.Tie as tie

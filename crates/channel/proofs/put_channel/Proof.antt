@@ -8,7 +8,6 @@ use borrow.Author.Needs.{needs}
 use borrow.Author.Tests.{ltb-true, ltb-false, not-true, not-false}
 use lib.ListN.{length}
 use Rattle.ground.specs.WritingLaws.{not-asked, nothing-new}
-use Rattle.search.specs.Search.{tcFrom}
 use Rattle.finder.specs.Find.{searchable}
 use Rattle.finder.specs.FindLaws.{searched}
 use Rattle.items.specs.declared.Item.{Item}
@@ -45,7 +44,7 @@ module _ (c : tie.Else2) where
   size = length-channel (commonOf (start .args .settings)) (start .args .threshold) (start .args .channel) (start .args .row .now) (searched _ _ _ asked .some)
 
 channel-short-requires : tie.Need-channel-short-requires
-channel-short-requires c κs = (searched _ _ _ (asked c), rw (c .before .tc-from .ensures) at (some c))
+channel-short-requires c κs = (asked c, rw (c .before .tc-from .ensures) at (some c))
 
 returns-3 : tie.Need-returns-3
 returns-3 c =
@@ -58,7 +57,7 @@ room c = rw (size (c .before .before)) (ltb-false _ _ (sym (c .before .channel-s
 put-found-requires : tie.Need-put-found-requires
 put-found-requires c κs =
     let e = c .before .before .before in
-    ((searched _ _ _ (asked e), e .before .tc-from .ensures, some e), room (c .before))
+    ((asked e, e .before .tc-from .ensures, some e), room (c .before))
 
 returns-4 : tie.Need-returns-4
 returns-4 c =

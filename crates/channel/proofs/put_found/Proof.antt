@@ -7,6 +7,7 @@ use native.Mathlib.Omega.{arith}
 use borrow.Author.Needs.{needs}
 use lib.ListN.{length}
 use Rattle.finder.specs.Find.{pulsesFrom}
+use Rattle.finder.specs.FindLaws.{searched, can-search}
 use Rattle.items.specs.declared.Item.{Item}
 use Rattle.items.specs.ItemsLaws.{first-room, then-room, then-written}
 use Rattle.channel.specs.Channel.{Common, windowItems, pulsesItems, channelItems}
@@ -42,13 +43,13 @@ put-window-if-requires : tie.Need-put-window-if-requires
 unfolding window
 put-window-if-requires c κs =
     let f = c .before in
-    (start f .pre .0 .0 .short, first-room _ _ (window f) _ (room f))
+    (searched _ _ _ (start f .pre .0 .0) .short, first-room _ _ (window f) _ (room f))
 
 put-pulses-requires : tie.Need-put-pulses-requires
 unfolding window pulses
 put-pulses-requires c κs =
     let f = c .before .before .before .before .before in
-    ((search-less (f .before .parts-of .result) _ _ _ _ (start f .pre .0 .0) (f .limit-for .ensures), start f .pre .0 .1), then-room _ _ (window f) (pulses f) _ _ (room f) (c .before .before .before .put-window-if .ensures))
+    ((can-search _ _ _ (search-less (f .before .parts-of .result) _ _ _ _ (searched _ _ _ (start f .pre .0 .0)) (f .limit-for .ensures)), start f .pre .0 .1), then-room _ _ (window f) (pulses f) _ _ (room f) (c .before .before .before .put-window-if .ensures))
 
 returns : tie.Need-returns
 unfolding common window pulses

@@ -9,7 +9,7 @@ use denote.Ref.{now}
 use Rattle.ground.specs.TestsLaws.{and-left, and-right}
 use Rattle.search.specs.Asked.{IsOver}
 use Rattle.finder.specs.Find.{searchable, isTc}
-use Rattle.finder.specs.FindLaws.{Searched, searched, is-tc, with-is}
+use Rattle.finder.specs.FindLaws.{Searched, searched, is-tc, from-is}
 use Rattle.finder.proofs.pulse_with.Statement.{statement}
 use Rattle.finder.proofs.pulse_with.Tie as tie
 
@@ -41,12 +41,12 @@ sum-if-requires : tie.Need-sum-if-requires
 sum-if-requires c κs = let e = c .before .before in omega (arith, can e .short, c .before .set-first .ensures, c .set-last .ensures)
 
 time-if-requires : tie.Need-time-if-requires
-time-if-requires c κs = let e = c .before .before .before in (over e, can e .short)
+time-if-requires c κs = let e = c .before .before .before in (over e .from, over e .to)
 
 returns-2 : tie.Need-returns-2
 returns-2 c =
     rw (asked (c .before .before .before .before))
-    (with-is _ _ _ _ _ _ _ _ _ _ _ (c .before .before .before .set-first .ensures) (c .before .before .set-last .ensures) (c .before .sum-if .ensures) (c .time-if .ensures))
+    (from-is _ _ _ _ _ _ _ _ _ _ _ (c .before .before .before .set-first .ensures) (c .before .before .set-last .ensures) (c .before .sum-if .ensures) (c .time-if .ensures))
 
 pub pulse-with-spec : {M : Type 1} → statement M
 pulse-with-spec =

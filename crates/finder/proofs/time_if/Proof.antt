@@ -4,7 +4,7 @@ use Rattle.finder.proofs.time_if.Statement.{statement}
 use Rattle.finder.proofs.time_if.Tie as tie
 
 returns : tie.Need-returns
-returns c = rw (c .before .if1 .taken) (c .time-at .ensures)
+returns c = rw (c .before .if1 .taken) (c .time-from .ensures)
 
 returns-2 : tie.Need-returns-2
 returns-2 c = rw (c .before .if1 .left) (c .tc-only .ensures)
