@@ -18,7 +18,7 @@ use Rattle.refusals.specs.Refusal.{numberOf, badArray}
 use Rattle.refusals.specs.declared.Refusal.the-variants as R
 use Rattle.items.specs.Items.{wordsOf}
 use Rattle.state.specs.declared.State.{State}
-use Rattle.state.specs.State.{idle, blank, withBlock, withEvent, withMark, withClosed}
+use Rattle.state.specs.State.{idle, blank, withBlock, withEvent, withClosed}
 use Rattle.state.specs.StateLaws.{blank-out}
 use Rattle.writer.specs.declared.Answer.{Answer}
 use Rattle.writer.specs.declared.Finished.{Finished}
@@ -32,7 +32,7 @@ use Rattle.numbers.specs.NumbersLaws.{settings-count, state-count, state-settin
 use Rattle.numbers.specs.StoreLaws.{head-over}
 use Rattle.numbers.specs.BackLaws.{settings-back, event-stored, mark-stored}
 use Rattle.host.specs.Face.{onState, onSettings, orElse, blockOpened, posted, eventClosed, finishOn, inHigh, SetUpFace, OpenBlockFace, OpenEventFace, PostFace, CloseFace, FinishFace}
-use Rattle.host.specs.Inner.{Kept, opened, Unmarked, marked}
+use Rattle.host.specs.Inner.{Kept, opened, MarkFits, marked}
 
 -- the head of a state with these settings, over the numbers
 head-numbers : (n : List ℕ) (s : State) → isState n ≡ true → s .settings ≡ stateFrom n .settings → headStored n s ≡ numbersOf s
@@ -215,7 +215,7 @@ unfolding postNumber postTable firstOf
 mark-out room c w = rw blank-out
 
 pub mark-room : (n store : List ℕ) (c : ℕ) (w : List ℕ) {s : State} {a : Answer} {store′ : List ℕ} → s ≡ stateOrNone n
-    → PostSays s store c w a store′ → numberOf (a .refusal) ≡ 0 → Unmarked n c
+    → PostSays s store c w a store′ → numberOf (a .refusal) ≡ 0 → MarkFits n c
 mark-room n store c w f d e =
     let state = call-accepted n (λ x. postNumber x (length store) c w) (mark-out (length store) c w) f (d .refusal) e in
     let a = post-accepted _ (length store) c w (sym (d .refusal) ∙ e) in

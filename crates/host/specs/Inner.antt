@@ -21,7 +21,7 @@ abbrev pub opened : List ℕ → ℕ → ℕ → List ℕ
 opened n event time = set (set (set n phaseAt (phaseNumber Event)) eventAt event) triggerTimeAt time
 
 -- the marks among the numbers n have room for the channel's bit
-pub record Unmarked (n : List ℕ) (c : ℕ) : Type 0 where
+pub record MarkFits (n : List ℕ) (c : ℕ) : Type 0 where
   pub long : headCount ≤ length n
   pub small : getD n marksAt 0 < 65536
   pub channel : c < 16

@@ -1,4 +1,4 @@
-// The calls that C makes: the numbers are loaded, the call is made, and an accepted one stores them back. Numbers that are no
+// The calls that C makes: the numbers are loaded, the call is made, and an accepted one stores what it changed. Numbers that are no
 // state are loaded as what stands for none, which the call refuses with 10.
 ghost use mathlib.Core.Path.{_≡_};
 ghost use Prim.Native.Nat.{_≤_};
@@ -6,7 +6,7 @@ ghost use lib.ListN.{length};
 ghost use Rattle.numbers.specs.Numbers.{headCount};
 ghost use Rattle.refusals.specs.Refusal.{numberOf};
 ghost use Rattle.host.specs.Face.{SetUpFace, OpenBlockFace, OpenEventFace, PostFace, CloseFace, FinishFace, inHigh};
-ghost use Rattle.host.specs.Inner.{Kept, opened, Unmarked, marked};
+ghost use Rattle.host.specs.Inner.{Kept, opened, MarkFits, marked};
 use crate::or_bad_array;
 use numbers::load::settings_or_none;
 use numbers::load::state_or_none;
@@ -99,7 +99,7 @@ pub extern "C" fn fadc250_open_event(state: &mut [u64], number: u32, time: u64) 
 
 // What an accepted post changes of a state's numbers: the channel's bit, unset before, is set.
 fn put_mark(numbers: &mut [u64], channel: u32)
-    requires { ⌜ Unmarked (now numbers) channel ⌝ }
+    requires { ⌜ MarkFits (now numbers) channel ⌝ }
     ensures { λ _. ⌜ now (numbers .exit) ≡ marked (now (numbers .entry)) channel ⌝ }
 {
     numbers[numbers::MARKS] = numbers[numbers::MARKS] + (1 << channel);

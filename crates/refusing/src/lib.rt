@@ -1,4 +1,5 @@
 // Which refusal a call is given: the rows of its table are asked in the paper's order, and none that an earlier one makes needless.
+// The phase alone is asked before the state's ranges: a call in turn then asks only the ranges of its own phase, in place.
 ghost use mathlib.Core.Path.{_≡_};
 ghost use mathlib.Core.Bool.{cond};
 ghost use Prim.Native.Nat.{_*_};
@@ -29,8 +30,7 @@ fn store_short(room: usize, nw: usize) -> bool
     room / 16 < nw
 }
 
-// A call out of turn: 7, but for a state that breaks its ranges 10, which comes first. A call in turn asks the ranges of its own phase
-// alone, so that no state is copied for them.
+// A call out of turn: 10 for a state that breaks its ranges, which comes first, else 7.
 fn out_of_turn(s: State) -> Refusal
     ensures { λ r. ⌜ numberOf r ≡ cond (stateOk s) 7 10 ⌝ }
 {
