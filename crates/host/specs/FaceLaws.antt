@@ -32,7 +32,7 @@ use Rattle.numbers.specs.NumbersLaws.{settings-count, state-count, state-settin
 use Rattle.numbers.specs.StoreLaws.{head-over}
 use Rattle.numbers.specs.BackLaws.{settings-back, event-stored, mark-stored}
 use Rattle.host.specs.Face.{onState, onSettings, orElse, blockOpened, posted, eventClosed, finishOn, inHigh, SetUpFace, OpenBlockFace, OpenEventFace, PostFace, CloseFace, FinishFace}
-use Rattle.host.specs.Inner.{Kept, opened, MarkFits, marked}
+use Rattle.host.specs.Inner.{Kept, eventPlaced, MarkFits, markPlaced}
 
 -- the head of a state with these settings, over the numbers
 head-numbers : (n : List ℕ) (s : State) → isState n ≡ true → s .settings ≡ stateFrom n .settings → headStored n s ≡ numbersOf s
@@ -199,13 +199,13 @@ event-room n event time f d e =
     omega (arith, state-count n (call-accepted n (λ x. openEventNumber x event time) (event-out event time) f (d .refusal) e))
 
 pub open-event-face : (n : List ℕ) (event time : ℕ) {s : State} {a : Answer} {r : ℕ} {n′ : List ℕ} → s ≡ stateOrNone n
-    → OpenEventSays s event time a → r ≡ numberOf (a .refusal) → n′ ≡ ifAccepted r (opened n event time) n → OpenEventFace n event time r n′
+    → OpenEventSays s event time a → r ≡ numberOf (a .refusal) → n′ ≡ ifAccepted r (eventPlaced n event time) n → OpenEventFace n event time r n′
 open-event-face n event time f d h k =
     let number : State → ℕ = λ x. openEventNumber x event time in
     let g = h ∙ d .refusal in
     record {
       number = call-number n number (event-out event time) f g;
-      numbers = call-placed n number (event-out event time) f g (λ (x : State). withEvent x event time) (opened n event time) (λ e o. event-stored n event time e) k;
+      numbers = call-placed n number (event-out event time) f g (λ (x : State). withEvent x event time) (eventPlaced n event time) (λ e o. event-stored n event time e) k;
     }
 
 -- ---- post a channel
@@ -222,14 +222,14 @@ mark-room n store c w f d e =
     record { long = omega (arith, state-count n state); small = omega (arith, head-held n state marksAt (omega arith)); channel = omega (arith, a .channel) }
 
 pub post-face : (n store : List ℕ) (c : ℕ) (w : List ℕ) {s : State} {a : Answer} {r : ℕ} {n′ store′ : List ℕ} → s ≡ stateOrNone n
-    → PostSays s store c w a store′ → r ≡ numberOf (a .refusal) → n′ ≡ ifAccepted r (marked n c) n → PostFace n store c w r n′ store′
+    → PostSays s store c w a store′ → r ≡ numberOf (a .refusal) → n′ ≡ ifAccepted r (markPlaced n c) n → PostFace n store c w r n′ store′
 post-face n store c w f d h k =
     let number : State → ℕ = λ x. postNumber x (length store) c w in
     let g = h ∙ d .refusal in
     record {
       number = call-number n number (mark-out (length store) c w) f g;
       numbers =
-          call-placed n number (mark-out (length store) c w) f g (λ (x : State). posted x c) (marked n c)
+          call-placed n number (mark-out (length store) c w) f g (λ (x : State). posted x c) (markPlaced n c)
           (λ e o. (let a = post-accepted (stateFrom n) (length store) c w o in mark-stored n c e (omega (arith, a .channel)) (a .fresh)))
           k;
       rows = call-lent n number (mark-out (length store) c w) f g (λ (x : State). splice store (rowStart x c) w) store (d .rows);

@@ -17,8 +17,8 @@ pub record Kept (n : List ℕ) (number : ℕ) (s : State) (r : ℕ) (n′ : List
   pub left : n′ ≡ ifAccepted number (headStored n s) n
 
 -- the event's numbers stand among the numbers n
-abbrev pub opened : List ℕ → ℕ → ℕ → List ℕ
-opened n event time = set (set (set n phaseAt (phaseNumber Event)) eventAt event) triggerTimeAt time
+abbrev pub eventPlaced : List ℕ → ℕ → ℕ → List ℕ
+eventPlaced n event time = set (set (set n phaseAt (phaseNumber Event)) eventAt event) triggerTimeAt time
 
 -- the marks among the numbers n have room for the channel's bit
 pub record MarkFits (n : List ℕ) (c : ℕ) : Type 0 where
@@ -27,8 +27,8 @@ pub record MarkFits (n : List ℕ) (c : ℕ) : Type 0 where
   pub channel : c < 16
 
 -- its bit is added
-abbrev pub marked : List ℕ → ℕ → List ℕ
-marked n c = set n marksAt (getD n marksAt 0 + 2 ^ c)
+abbrev pub markPlaced : List ℕ → ℕ → List ℕ
+markPlaced n c = set n marksAt (getD n marksAt 0 + 2 ^ c)
 
 -- a pulse's places are 32-bit numbers
 pub record Small (p : Pulse) : Type 0 where

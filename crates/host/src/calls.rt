@@ -6,7 +6,7 @@ ghost use lib.ListN.{length};
 ghost use Rattle.numbers.specs.Numbers.{headCount};
 ghost use Rattle.refusals.specs.Refusal.{numberOf};
 ghost use Rattle.host.specs.Face.{SetUpFace, OpenBlockFace, OpenEventFace, PostFace, CloseFace, FinishFace, inHigh};
-ghost use Rattle.host.specs.Inner.{Kept, opened, MarkFits, marked};
+ghost use Rattle.host.specs.Inner.{Kept, eventPlaced, MarkFits, markPlaced};
 use crate::or_bad_array;
 use numbers::load::settings_or_none;
 use numbers::load::state_or_none;
@@ -74,9 +74,9 @@ pub extern "C" fn fadc250_open_block(
 }
 
 // What an accepted opening changes of a state's numbers: the phase, the event's number and its time.
-fn put_event(numbers: &mut [u64], number: u32, time: u64)
+fn place_event(numbers: &mut [u64], number: u32, time: u64)
     requires { ⌜ headCount ≤ length (now numbers) ⌝ }
-    ensures { λ _. ⌜ now (numbers .exit) ≡ opened (now (numbers .entry)) number time ⌝ }
+    ensures { λ _. ⌜ now (numbers .exit) ≡ eventPlaced (now (numbers .entry)) number time ⌝ }
 {
     numbers[numbers::PHASE] = phase_number(Phase::Event);
     numbers[numbers::EVENT] = number as u64;
@@ -91,16 +91,16 @@ pub extern "C" fn fadc250_open_event(state: &mut [u64], number: u32, time: u64) 
     let answer = writer::open_event(loaded, number, time);
     let refusal = answer.refusal;
     if refusals::accepted(refusal) {
-        put_event(state, number, time);
+        place_event(state, number, time);
         return 0;
     }
     refusals::number(refusal)
 }
 
 // What an accepted post changes of a state's numbers: the channel's bit, unset before, is set.
-fn put_mark(numbers: &mut [u64], channel: u32)
+fn place_mark(numbers: &mut [u64], channel: u32)
     requires { ⌜ MarkFits (now numbers) channel ⌝ }
-    ensures { λ _. ⌜ now (numbers .exit) ≡ marked (now (numbers .entry)) channel ⌝ }
+    ensures { λ _. ⌜ now (numbers .exit) ≡ markPlaced (now (numbers .entry)) channel ⌝ }
 {
     numbers[numbers::MARKS] = numbers[numbers::MARKS] + (1 << channel);
 }
@@ -118,7 +118,7 @@ pub extern "C" fn fadc250_post(
     let answer = writer::post(loaded, store, channel as usize, window);
     let refusal = answer.refusal;
     if refusals::accepted(refusal) {
-        put_mark(state, channel);
+        place_mark(state, channel);
         return 0;
     }
     refusals::number(refusal)

@@ -8,8 +8,8 @@ use Rattle.host.specs.FaceLaws.{event-room, open-event-face}
 use Rattle.host.proofs.calls.fadc250_open_event.Statement.{statement}
 use Rattle.host.proofs.calls.fadc250_open_event.Tie as tie
 
-put-event-requires : tie.Need-put-event-requires
-put-event-requires c κs =
+place-event-requires : tie.Need-place-event-requires
+place-event-requires c κs =
     let made = c .before .before .before in
     event-room _ _ _ (made .before .state-or-none .ensures) (made .open-event .ensures) (eqb-true _ 0 (sym (c .before .before .accepted .ensures) ∙ c .before .if1 .taken))
 
@@ -17,7 +17,7 @@ returns : tie.Need-returns
 returns c =
     let taken = c .before .before .before .before in
     let made = taken .before .before in
-    open-event-face _ _ _ (made .before .state-or-none .ensures) (made .open-event .ensures) (sym (eqb-true _ 0 (sym (taken .before .accepted .ensures) ∙ taken .if1 .taken))) (c .before .before .put-event .ensures)
+    open-event-face _ _ _ (made .before .state-or-none .ensures) (made .open-event .ensures) (sym (eqb-true _ 0 (sym (taken .before .accepted .ensures) ∙ taken .if1 .taken))) (c .before .before .place-event .ensures)
 
 returns-2 : tie.Need-returns-2
 returns-2 c =
@@ -32,7 +32,7 @@ fadc250-open-event-spec =
     (λ c κs. search needs)
     (λ c κs. search needs)
     (λ c κs. search needs)
-    put-event-requires
+    place-event-requires
     (λ c. search needs)
     returns
     (λ c κs. search needs)

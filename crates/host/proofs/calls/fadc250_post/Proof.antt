@@ -8,8 +8,8 @@ use Rattle.host.specs.FaceLaws.{mark-room, post-face}
 use Rattle.host.proofs.calls.fadc250_post.Statement.{statement}
 use Rattle.host.proofs.calls.fadc250_post.Tie as tie
 
-put-mark-requires : tie.Need-put-mark-requires
-put-mark-requires c κs =
+place-mark-requires : tie.Need-place-mark-requires
+place-mark-requires c κs =
     let made = c .before .before .before .before .before in
     mark-room _ _ _ _ (made .before .before .state-or-none .ensures) (made .post .ensures) (eqb-true _ 0 (sym (c .before .before .accepted .ensures) ∙ c .before .if1 .taken))
 
@@ -18,7 +18,7 @@ returns c =
     let mark = c .before .before in
     let taken = mark .before .before in
     let made = taken .before .before .before .before in
-    post-face _ _ _ _ (made .before .before .state-or-none .ensures) (made .post .ensures) (sym (eqb-true _ 0 (sym (taken .before .accepted .ensures) ∙ taken .if1 .taken))) (mark .put-mark .ensures)
+    post-face _ _ _ _ (made .before .before .state-or-none .ensures) (made .post .ensures) (sym (eqb-true _ 0 (sym (taken .before .accepted .ensures) ∙ taken .if1 .taken))) (mark .place-mark .ensures)
 
 returns-2 : tie.Need-returns-2
 returns-2 c =
@@ -33,7 +33,7 @@ fadc250-post-spec =
     (λ c κs. search needs)
     (λ c κs. search needs)
     (λ c κs. search needs)
-    put-mark-requires
+    place-mark-requires
     (λ c. search needs)
     (λ c. search needs)
     returns

@@ -1,4 +1,4 @@
--- `host::calls::put_mark` meets its contract. Assumes nothing.
+-- `host::calls::place_mark` meets its contract. Assumes nothing.
 use Prim.Native.Nat.{ℕ, _+_, _*_, _%_, _^_, _<_}
 use mathlib.Core.Path.{_≡_, refl, ap}
 use native.Mathlib.Omega.{arith}
@@ -6,8 +6,8 @@ use borrow.Author.Needs.{needs}
 use lib.ListN.{getD, set}
 use Rattle.numbers.specs.Numbers.{marksAt}
 use Rattle.numbers.specs.NumbersLaws.{bit-small}
-use Rattle.host.proofs.calls.put_mark.Statement.{statement}
-use Rattle.host.proofs.calls.put_mark.Tie as tie
+use Rattle.host.proofs.calls.place_mark.Statement.{statement}
+use Rattle.host.proofs.calls.place_mark.Tie as tie
 
 bit : (c : ℕ) → c < 16 → 2 ^ c < 65536
 bit c h = bit-small (2 ^ c) c refl h .1
@@ -22,7 +22,7 @@ returns c =
     let same : 1 * 2 ^ a .channel % 18446744073709551616 ≡ 2 ^ a .channel = omega (arith, bit (a .channel) (c .before .pre .channel)) in
     ap (λ (x : ℕ). set n marksAt (getD n marksAt 0 + x)) same
 
-pub put-mark-spec : {M : Type 1} → statement M
-put-mark-spec =
+pub place-mark-spec : {M : Type 1} → statement M
+place-mark-spec =
     tie.close
     (tie.spec (λ c. search needs) (λ c. search needs) add-numbers (λ c. search needs) (λ c. search needs) returns)
