@@ -1,9 +1,6 @@
 -- The words that the lister knows at a glance. Assumes nothing.
 use Prim.Native.Nat.{ℕ}
 use mathlib.Core.Path.{_≡_}
-use mathlib.Core.Bool.{Bool, _&&_}
-use lib.Dec.{eqb}
-use Rattle.fields.specs.Word.{read}
 use Rattle.raw.specs.Words.{pairOf}
 use Rattle.measures.specs.Words.{integralOf, timeOf, pedestalOf}
 use Rattle.items.specs.declared.Item.{Item}
@@ -17,10 +14,6 @@ use Rattle.listing.specs.declared.quick.Kind.{Kind}
 use Rattle.listing.specs.declared.quick.Kind.the-variants as K
 use Rattle.listing.specs.declared.quick.Quick.{Quick}
 use Rattle.listing.specs.declared.quick.Quick.the-variants as Q
-
--- a continuation whose zero bits are zero, with neither flag
-unfoldable pub plain : ℕ → Bool
-plain word = eqb (read 31 29 word) 0 && eqb (read 15 13 word) 0
 
 abbrev pub quickItem : Kind → ℕ → Item
 quickItem K.Pair word = I.Pair (pairOf word)

@@ -1,17 +1,16 @@
 -- A word that is known at a glance is judged so. Assumes nothing.
-use Prim.Native.Nat.{ℕ, _-_, _/_, _%_, _^_, _<_}
+use Prim.Native.Nat.{ℕ, _-_, _<_}
 use mathlib.Core.Path.{_≡_, refl, sym, ap, _∙_}
 use mathlib.Core.Bool.{Bool, true, false, _&&_}
 use mathlib.Core.List.{List, [], _∷_}
 use native.Mathlib.Omega.{arith}
-use borrow.Author.Tests.{ltb-true, eqb-true, lt-leb, ne-eqb}
-use lib.Dec.{eqb, ltb}
+use borrow.Author.Tests.{ltb-true, lt-leb, ne-eqb}
+use lib.Dec.{ltb}
 use lib.ListN.{drop}
 use Rattle.ground.specs.Tests.{firstOf}
 use Rattle.ground.specs.TestsLaws.{and-left, and-right}
-use Rattle.fields.specs.Word.{fieldAt}
-use Rattle.fields.specs.Tag.{isDefining, isContinuation}
-use Rattle.raw.specs.Words.{pairOf, pairFixed}
+use Rattle.fields.specs.Tag.{isDefining}
+use Rattle.raw.specs.Words.{pairOf}
 use Rattle.measures.specs.Words.{integralOf, timeOf, timeFixed, pedestalOf}
 use Rattle.items.specs.Items.{itemFrom}
 use Rattle.items.specs.declared.Form.{Form}
@@ -34,7 +33,9 @@ use Rattle.entries.specs.Entries.{recordLines, fillerIn}
 use Rattle.text.specs.Line.{Line}
 use Rattle.listing.specs.declared.quick.Kind.{Kind}
 use Rattle.listing.specs.declared.quick.Kind.the-variants as K
-use Rattle.listing.specs.Quick.{plain, quickItem, quickLine}
+use Rattle.raw.specs.Plain.{plain}
+use Rattle.raw.specs.PlainLaws.{plain-bits}
+use Rattle.listing.specs.Quick.{quickItem, quickLine}
 
 -- its record has that line, whatever follows, and is no filler
 pub quick-line : (kind : Kind) (word : ℕ) (behind : List Item) → recordLines (quickItem kind word) behind ≡ quickLine kind word ∷ []
@@ -48,24 +49,6 @@ quick-filler K.Pair word = refl
 quick-filler K.Integral word = refl
 quick-filler K.Time word = refl
 quick-filler K.Pedestal word = refl
-
-record PlainBits (word : ℕ) : Type 0 where
-  more : isContinuation word ≡ true
-  fixed : pairFixed word ≡ true
-  first : (pairOf word) .nofirst ≡ 0
-  second : (pairOf word) .nosecond ≡ 0
-
-plain-bits : (word : ℕ) → plain word ≡ true → PlainBits word
-unfolding plain isContinuation pairFixed pairOf fieldAt
-plain-bits word d =
-    let hi : word / 2 ^ 29 % 2 ^ 3 ≡ 0 = eqb-true _ 0 (and-left _ _ d) in
-    let lo : word / 2 ^ 13 % 2 ^ 3 ≡ 0 = eqb-true _ 0 (and-right (eqb (word / 2 ^ 29 % 2 ^ 3) 0) _ d) in
-    let b31 : word / 2 ^ 31 % 2 ^ 1 ≡ 0 = omega arith in
-    let b30 : word / 2 ^ 30 % 2 ^ 1 ≡ 0 = omega arith in
-    let b29 : word / 2 ^ 29 % 2 ^ 1 ≡ 0 = omega arith in
-    let b14 : word / 2 ^ 14 % 2 ^ 2 ≡ 0 = omega arith in
-    let b13 : word / 2 ^ 13 % 2 ^ 1 ≡ 0 = omega arith in
-    record { more = rw b31; fixed = rw (b30, b14); first = b29; second = b13 }
 
 -- the scan behind a word that changes the stage alone
 abbrev behindAt : Scan → Stage → Scan

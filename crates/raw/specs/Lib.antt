@@ -1,2 +1,4 @@
 pub mod Words
 pub mod WordsLaws
+pub mod Plain
+pub mod PlainLaws

@@ -12,7 +12,8 @@ use Rattle.fields.specs.Word.{fieldAt}
 use Rattle.fields.specs.Tag.{isDefining}
 use Rattle.fields.specs.Bytes.{wordOfBytes, wordsOfBytes}
 use Rattle.measures.specs.Words.{timeFixed}
-use Rattle.runs.specs.Runs.{turnedAt, plain, measure}
+use Rattle.raw.specs.Plain.{plain}
+use Rattle.runs.specs.Runs.{turnedAt, measure}
 use Rattle.runs.specs.WordsLaws.{word-is}
 
 or-map : (x y v w : Bool) → (x ≡ true → v ≡ true) → (y ≡ true → w ≡ true) → x || y ≡ true → v || w ≡ true

@@ -23,10 +23,6 @@ turnedAt bytes k = wordOfBytes (getD bytes (4 * k + 3) 0) (getD bytes (4 * k + 2
 
 -- ---- words that may be passed
 
--- a pair of two samples: bit 31, the bits shown zero and both flags are clear
-unfoldable pub plain : ℕ → Bool
-plain word = eqb (read 31 29 word) 0 && eqb (read 15 13 word) 0
-
 -- a pair of one sample: the second flag is set, and its sample is 0
 unfoldable pub single : ℕ → Bool
 single word = eqb (read 31 29 word) 0 && eqb (read 15 0 word) 8192

@@ -18,7 +18,8 @@ use Rattle.scan.specs.declared.Stage.the-variants as P
 use Rattle.scan.specs.declared.Scan.{Scan}
 use Rattle.reader.specs.Reader.{checkFrom}
 use Rattle.reader.specs.RunLaws.{cons-at}
-use Rattle.runs.specs.Runs.{plain, single, measure, windowHead, rawHead, headSize, All, standing, Behind, Passed, PassedTo, HeadTo}
+use Rattle.raw.specs.Plain.{plain}
+use Rattle.runs.specs.Runs.{single, measure, windowHead, rawHead, headSize, All, standing, Behind, Passed, PassedTo, HeadTo}
 use Rattle.runs.specs.StepsLaws.{measure-passed, window-passed, raw-passed, event-passed, clock-passed, high-passed, plain-passed, plain-raw, single-passed, single-raw, raw-end, timed-end, opened-end}
 
 -- nothing passed, and one run behind another
@@ -200,6 +201,9 @@ raw-run {words} {k} {m} {r} d a b u s t l e =
 
 pub items-passed : {words : List ℕ} {slot k left r : ℕ} → Passed words k r → PassedTo words slot k left r left
 items-passed {slot = slot} {left = left} a = record { ahead = a .ahead; same = λ place h. a .same place slot left h }
+
+pub events-none : {words : List ℕ} {slot k left : ℕ} → PassedTo words slot k left k left
+events-none {words} {slot} {k} {left} = items-passed (record { ahead = omega arith; same = λ place s l h. (let z : place + (k - k) ≡ place = omega arith in rw z) })
 
 pub events-more : {words : List ℕ} {slot k left m some r rest : ℕ} → PassedTo words slot k left m some → PassedTo words slot m some r rest → PassedTo words slot k left r rest
 events-more {words} {slot} {k} {left} {m} {some} {r} {rest} a b =

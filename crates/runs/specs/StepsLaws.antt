@@ -33,7 +33,9 @@ use Rattle.reader.specs.Reader.{stepBy, stepAt, onStep, checkFrom}
 use Rattle.reader.specs.ReaderLaws.{step-form}
 use Rattle.reader.specs.RunLaws.{check-at}
 use Rattle.reader.specs.declared.Step.{Step}
-use Rattle.runs.specs.Runs.{plain, single, measure, windowHead, rawHead, standing}
+use Rattle.raw.specs.Plain.{plain}
+use Rattle.raw.specs.PlainLaws.{plain-bits}
+use Rattle.runs.specs.Runs.{single, measure, windowHead, rawHead, standing}
 
 onward-is : (place : ℕ) → place < 4194303 → onward place ≡ place + 1
 unfolding onward
@@ -42,24 +44,6 @@ onward-is place h = omega arith
 not-limit : (s : Scan) → s .place < 4194303 → atLimit s ≡ false
 unfolding atLimit
 not-limit s h = rw (ne-eqb (s .place) 4194303 (omega arith)) (and-false (unfinished s))
-
-record PlainBits (word : ℕ) : Type 0 where
-  more : isContinuation word ≡ true
-  fixed : pairFixed word ≡ true
-  first : (pairOf word) .nofirst ≡ 0
-  second : (pairOf word) .nosecond ≡ 0
-
-plain-bits : (word : ℕ) → plain word ≡ true → PlainBits word
-unfolding plain isContinuation pairFixed pairOf fieldAt
-plain-bits word d =
-    let hi : word / 2 ^ 29 % 2 ^ 3 ≡ 0 = eqb-true _ 0 (and-left _ _ d) in
-    let lo : word / 2 ^ 13 % 2 ^ 3 ≡ 0 = eqb-true _ 0 (and-right (eqb (word / 2 ^ 29 % 2 ^ 3) 0) _ d) in
-    let b31 : word / 2 ^ 31 % 2 ^ 1 ≡ 0 = omega arith in
-    let b30 : word / 2 ^ 30 % 2 ^ 1 ≡ 0 = omega arith in
-    let b29 : word / 2 ^ 29 % 2 ^ 1 ≡ 0 = omega arith in
-    let b14 : word / 2 ^ 14 % 2 ^ 2 ≡ 0 = omega arith in
-    let b13 : word / 2 ^ 13 % 2 ^ 1 ≡ 0 = omega arith in
-    record { more = rw b31; fixed = rw (b30, b14); first = b29; second = b13 }
 
 record SingleBits (word : ℕ) : Type 0 where
   more : isContinuation word ≡ true

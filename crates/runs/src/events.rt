@@ -53,6 +53,24 @@ fn head_end(bytes: &[u8], k: usize, end: usize, slot: u32) -> usize
     k
 }
 
+// Past the heads of events that stand here one behind the other: of events without an item.
+fn heads_end(bytes: &[u8], from: usize, end: usize, slot: u32, left: u32) -> Events
+    requires { ⌜ (from ≤ end) × (4 * end ≤ length (now bytes)) ⌝ }
+    ensures { λ r. ⌜ (r .next ≤ end) × PassedTo (wordsOfBytes (now (bytes .entry))) slot from left (r .next) (r .left) ⌝ }
+{
+    let mut k = from;
+    let mut n = left;
+    while 0 < n {
+        let next = head_end(bytes, k, end, slot);
+        if next == k {
+            return Events { next: k, left: n };
+        }
+        k = next;
+        n -= 1;
+    }
+    Events { next: k, left: n }
+}
+
 // The items that stand here, and event by event as long as the head of one is passed.
 pub(crate) fn events_end(bytes: &[u8], from: usize, end: usize, slot: u32, left: u32) -> Events
     requires { ⌜ (from ≤ end) × (4 * end ≤ length (now bytes)) ⌝ }
@@ -60,13 +78,13 @@ pub(crate) fn events_end(bytes: &[u8], from: usize, end: usize, slot: u32, left:
 {
     let mut k = crate::items_end(bytes, from, end);
     let mut n = left;
-    while 0 < n {
-        let next = head_end(bytes, k, end, slot);
-        if next == k {
+    while k < end {
+        let heads = heads_end(bytes, k, end, slot, n);
+        if heads.next == k {
             return Events { next: k, left: n };
         }
-        k = crate::items_end(bytes, next, end);
-        n -= 1;
+        k = crate::items_end(bytes, heads.next, end);
+        n = heads.left;
     }
     Events { next: k, left: n }
 }

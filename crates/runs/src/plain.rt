@@ -4,7 +4,8 @@ ghost use mathlib.Core.Bool.{true};
 ghost use Prim.Native.Nat.{_+_, _*_, _≤_};
 ghost use lib.ListN.{length, getD};
 ghost use Rattle.fields.specs.Bytes.{wordsOfBytes};
-ghost use Rattle.runs.specs.Runs.{plain, single, All};
+ghost use Rattle.raw.specs.Plain.{plain};
+ghost use Rattle.runs.specs.Runs.{single, All};
 
 // The flag of the second sample: bit 13.
 const FLAG: u32 = 8192;

@@ -1,5 +1,5 @@
 -- `listing::quick::is_plain` meets its contract.
-use Rattle.listing.specs.Quick.{plain}
+use Rattle.raw.specs.Plain.{plain}
 use borrow.Author.Needs.{needs}
 use Rattle.listing.proofs.quick.is_plain.Statement.{statement}
 use Rattle.listing.proofs.quick.is_plain.Tie as tie

@@ -6,7 +6,8 @@ use native.Mathlib.Omega.{arith}
 use borrow.Author.Needs.{needs}
 use Rattle.fields.specs.Bytes.{wordsOfBytes}
 use Rattle.ground.specs.TestsLaws.{and-left, and-right}
-use Rattle.runs.specs.Runs.{plain, All}
+use Rattle.raw.specs.Plain.{plain}
+use Rattle.runs.specs.Runs.{All}
 use Rattle.runs.specs.WordsLaws.{all-none, all-one}
 use Rattle.runs.proofs.plain.chunk_plain.Statement.{statement}
 use Rattle.runs.proofs.plain.chunk_plain.Tie as tie

@@ -4,7 +4,8 @@ use native.Mathlib.Omega.{arith}
 use borrow.Author.Needs.{needs}
 use borrow.Author.Tests.{not-false}
 use Rattle.fields.specs.Bytes.{wordsOfBytes}
-use Rattle.runs.specs.Runs.{plain, All}
+use Rattle.raw.specs.Plain.{plain}
+use Rattle.runs.specs.Runs.{All}
 use Rattle.runs.specs.WordsLaws.{all-none, all-more}
 use Rattle.runs.proofs.plain.plain_chunks.Statement.{statement}
 use Rattle.runs.proofs.plain.plain_chunks.Tie as tie
