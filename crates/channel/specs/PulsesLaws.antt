@@ -13,7 +13,8 @@ use Rattle.search.specs.Asked.{IsOver}
 use Rattle.search.specs.SearchLaws.{tc-over}
 use Rattle.finder.specs.declared.Base.{Base}
 use Rattle.finder.specs.declared.Pulse.{Pulse}
-use Rattle.finder.specs.Find.{baseOf, pulseAt, pulseWith, pulseFrom, isTc, pulsesFrom, noPulse, searchable}
+use Rattle.finder.specs.Find.{pulseAt, pulsesFrom, noPulse, searchable}
+use Rattle.finder.specs.Wanted.{baseOf, pulseWith, pulseFrom, isTc}
 use Rattle.finder.specs.FindLaws.{Searched, can-search, tc-is}
 use Rattle.finder.specs.RangeLaws.{with-fits, from-with}
 use Rattle.items.specs.declared.Item.{Item}

@@ -55,6 +55,7 @@ use Rattle.follow.proofs as follow
 use Rattle.records.proofs as records
 use Rattle.copies.proofs as copies
 use Rattle.numbers.proofs as numbers
+use Rattle.runs.proofs as runs
 use Rattle.bytecheck.proofs as bytecheck
 use Rattle.host.proofs as host
 use Rattle.hostread.proofs as hostread
@@ -387,6 +388,12 @@ can-search-unique κs a r s u v p q = by-equation p q
 pub pulses-of-unique : Unique finder.pulses_of.ended finder.pulses_of.Reads.Learnt
 pulses-of-unique κs a r s u v p q = by-equation p q
 
+pub base-of-unique : Unique finder.base_of.ended finder.base_of.Reads.Learnt
+base-of-unique κs a r s u v p q = by-equation p q
+
+pub pulse-with-unique : Unique finder.pulse_with.ended finder.pulse_with.Reads.Learnt
+pulse-with-unique κs a r s u v p q = by-equation p q
+
 -- find
 pub find-unique : Unique find.find.ended find.find.Reads.Learnt
 find-unique κs a r s u v p q = (F.find-unique _ _ _ _ _ p q, refl)
@@ -411,6 +418,9 @@ pub put-run-unique : Unique pairs.put_run.ended pairs.put_run.Reads.Learnt
 put-run-unique κs a r s u v p q = by-writing (u .1) p q
 
 -- pulse
+pub set-length-unique : Unique pulse.set_length.ended pulse.set_length.Reads.Learnt
+set-length-unique κs a r s u v p q = by-equation p q
+
 pub pulse-length-unique : Unique pulse.pulse_length.ended pulse.pulse_length.Reads.Learnt
 pulse-length-unique κs a r s u v p q = by-equation p q
 
@@ -423,6 +433,9 @@ put-channel-unique κs a r s u v p q = by-writing (u .1) p q
 
 pub channel-length-unique : Unique channel.channel_length.ended channel.channel_length.Reads.Learnt
 channel-length-unique κs a r s u v p q = by-equation p q
+
+pub most-words-unique : Unique channel.most_words.ended channel.most_words.Reads.Learnt
+most-words-unique κs a r s u v p q = by-equation p q
 
 -- rows
 pub lent-unique : Unique rows.lent.ended rows.lent.Reads.Learnt
@@ -450,6 +463,15 @@ event-ok-unique κs a r s u v p q = by-equation p q
 
 pub head-words-unique : Unique state.ranges.head_words.ended state.ranges.head_words.Reads.Learnt
 head-words-unique κs a r s u v p q = by-equation p q
+
+pub idle-ok-unique : Unique state.ranges.idle_ok.ended state.ranges.idle_ok.Reads.Learnt
+idle-ok-unique κs a r s u v p q = by-equation p q
+
+pub between-ok-unique : Unique state.ranges.between_ok.ended state.ranges.between_ok.Reads.Learnt
+between-ok-unique κs a r s u v p q = by-equation p q
+
+pub during-ok-unique : Unique state.ranges.during_ok.ended state.ranges.during_ok.Reads.Learnt
+during-ok-unique κs a r s u v p q = by-equation p q
 
 pub state-ok-unique : Unique state.ranges.state_ok.ended state.ranges.state_ok.Reads.Learnt
 state-ok-unique κs a r s u v p q = by-equation p q
@@ -570,6 +592,10 @@ next-unique κs a r s u v p q = by-equation (p .answer) (q .answer)
 pub pairs-from-unique : Unique rawitems.pairs_from.ended rawitems.pairs_from.Reads.Learnt
 pairs-from-unique κs a r s u v p q = by-equation p q
 
+-- runs; how far `past_items` goes is left open
+pub word-at-unique : Unique runs.word_at.ended runs.word_at.Reads.Learnt
+word-at-unique κs a r s u v p q = by-equation p q
+
 -- bytecheck
 pub check-bytes-unique : Unique bytecheck.check_bytes.ended bytecheck.check_bytes.Reads.Learnt
 check-bytes-unique κs a r s u v p q = by-equation p q
@@ -603,6 +629,9 @@ settings-or-none-unique κs a r s u v p q = by-equation p q
 
 pub state-or-none-unique : Unique numbers.load.state_or_none.ended numbers.load.state_or_none.Reads.Learnt
 state-or-none-unique κs a r s u v p q = by-equation p q
+
+pub phase-number-unique : Unique numbers.store.phase_number.ended numbers.store.phase_number.Reads.Learnt
+phase-number-unique κs a r s u v p q = by-equation p q
 
 pub put-head-unique : Unique numbers.store.put_head.ended numbers.store.put_head.Reads.Learnt
 put-head-unique κs a r s u v p q = (refl, λ i. (one-result p q i, u .1))

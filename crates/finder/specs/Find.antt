@@ -1,6 +1,6 @@
 -- The pulses of one window: document 01, "Finding pulses". Assumes nothing.
 use Prim.Native.Nat.{ℕ, zero, suc, _+_, _-_, _*_, _/_, min, max}
-use mathlib.Core.Bool.{Bool, cond, _&&_}
+use mathlib.Core.Bool.{Bool, cond}
 use mathlib.Core.List.{List, [], _∷_}
 use lib.ListN.{length, replicate}
 use lib.Seq.{sets}
@@ -9,10 +9,9 @@ use Rattle.ground.specs.Search.{least, greatest, sumOver}
 use Rattle.ground.specs.Tests.{allOf}
 use Rattle.limits.specs.Limits.{mostSamples}
 use Rattle.settings.specs.Ranges.{mostNsa, mostLimit}
-use Rattle.search.specs.Search.{ampAt, over, tcFrom, early}
+use Rattle.search.specs.Search.{ampAt, tcFrom, early}
 use Rattle.finder.specs.declared.Rule.{Rule}
 use Rattle.finder.specs.declared.Rule.the-variants.{Early, Late, Flat, Edge}
-use Rattle.finder.specs.declared.Base.{Base}
 use Rattle.finder.specs.declared.Time.{Time}
 use Rattle.finder.specs.declared.Pulse.{Pulse}
 use Rattle.finder.specs.declared.Pulses.{Pulses}
@@ -71,22 +70,6 @@ edgeTime w low peak =
     let n : ℕ = n1 w mid peak in
     record { coarse = n; fine = fineOf mid (ampAt w n) (ampAt w (n + 1)); vmin = low; vpeak = ampAt w peak; rule = Edge }
 
--- what the first four samples say of every time: that rule 1 holds, or VMIN
-unfoldable pub baseOf : List ℕ → ℕ → Base
-baseOf w t = record { early = early w t; low = cond (early w t) 0 (vmin w) }
-
--- rule 4 by any base: where it has no edge, as in 3
-unfoldable pub edgeFrom : List ℕ → ℕ → ℕ → ℕ → Time
-edgeFrom w low tc peak =
-    cond (ltb low (ampAt w peak) && ltb 0 (n1 w (vmid (ampAt w peak) low) peak)) (edgeTime w low peak) (tcOnly tc low Flat)
-
--- the time by any base, in the rules' order
-unfoldable pub timeFrom : List ℕ → Base → ℕ → Time
-timeFrom w b tc =
-    cond (b .early) (tcOnly tc 0 Early)
-    (cond (ltb (length w - tc) 5) (tcOnly tc (b .low) Late)
-    (cond (eqb (firstFall w tc) 0) (tcOnly tc (b .low) Flat) (edgeFrom w (b .low) tc (firstFall w tc - 1))))
-
 -- "None: as in 2. Else P = k-1"
 unfoldable pub afterFall : List ℕ → ℕ → ℕ → Time
 afterFall w tc k = cond (eqb k 0) (tcOnly tc (vmin w) Flat) (edgeTime w (vmin w) (k - 1))
@@ -114,24 +97,6 @@ pulseAt w t nsb nsa tc =
     let last : ℕ = setLast tc nsa (length w) in
     record { tc = tc; first = first; last = last; sum = integral w first last; time = timeAt w t tc }
 
--- the same with no more of it than is asked: its sum, else 0; its time, else TC alone
-unfoldable pub pulseWith : Bool → Bool → List ℕ → ℕ → ℕ → ℕ → ℕ → Pulse
-pulseWith sums times w t nsb nsa tc =
-    let first : ℕ = setFirst tc nsb in
-    let last : ℕ = setLast tc nsa (length w) in
-    record { tc = tc; first = first; last = last; sum = cond sums (integral w first last) 0; time = cond times (timeAt w t tc) (tcOnly tc 0 Early) }
-
--- the same by any base
-unfoldable pub pulseFrom : Bool → Bool → List ℕ → Base → ℕ → ℕ → ℕ → Pulse
-pulseFrom sums times w b nsb nsa tc =
-    let first : ℕ = setFirst tc nsb in
-    let last : ℕ = setLast tc nsa (length w) in
-    record { tc = tc; first = first; last = last; sum = cond sums (integral w first last) 0; time = cond times (timeFrom w b tc) (tcOnly tc 0 Early) }
-
--- sample k is one of the window, and over
-unfoldable pub isTc : List ℕ → ℕ → ℕ → Bool
-isTc w t k = allOf (leb 1 k ∷ leb k (length w) ∷ over w t k ∷ [])
-
 -- "Stop at the limit or when there is none." At most n pulses, from s on.
 unfoldable pub pulsesFrom : List ℕ → ℕ → ℕ → ℕ → ℕ → ℕ → List Pulse
 pulsesFrom w t nsb nsa zero s = []
@@ -157,5 +122,5 @@ findAll w t nsb nsa limit = packed (cond (searchable (length w) nsa limit) (puls
 
 -- a proof that computes opens this file and what it leans on by one name
 unfoldable pub allOpen : Unit {0}
-unfolding integral vmin falls firstFall vmid atMost n1 fineOf edgeTime baseOf edgeFrom timeFrom afterFall timeAt pulseAt pulseWith pulseFrom isTc pulsesFrom noPulse packed searchable findAll Rattle.ground.specs.Search.allOpen Rattle.ground.specs.Tests.allOpen Rattle.limits.specs.Limits.allOpen Rattle.settings.specs.Ranges.allOpen Rattle.search.specs.Search.allOpen
+unfolding integral vmin falls firstFall vmid atMost n1 fineOf edgeTime afterFall timeAt pulseAt pulsesFrom noPulse packed searchable findAll Rattle.ground.specs.Search.allOpen Rattle.ground.specs.Tests.allOpen Rattle.limits.specs.Limits.allOpen Rattle.settings.specs.Ranges.allOpen Rattle.search.specs.Search.allOpen
 allOpen = tt

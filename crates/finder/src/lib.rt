@@ -11,7 +11,8 @@ ghost use Rattle.settings.specs.Ranges.{mostNsa, mostLimit};
 ghost use Rattle.samples.specs.Sample.{mostAmp};
 ghost use Rattle.search.specs.Search.{ampAt};
 ghost use Rattle.search.specs.Asked.{IsOver};
-ghost use Rattle.finder.specs.Find.{setFirst, setLast, integral, vmin, firstFall, n1, edgeFrom, tcOnly, baseOf, timeFrom, timeAt, pulseAt, pulseFrom, isTc, pulsesFrom, noPulse, packed, searchable, findAll, ruleNumber};
+ghost use Rattle.finder.specs.Find.{setFirst, setLast, integral, vmin, firstFall, n1, tcOnly, timeAt, pulseAt, pulsesFrom, noPulse, packed, searchable, findAll, ruleNumber};
+ghost use Rattle.finder.specs.Wanted.{edgeFrom, baseOf, timeFrom, pulseFrom, isTc};
 ghost use Rattle.finder.specs.declared.Rule.the-variants.{Early};
 
 // Which rule of the high-resolution time gave it: 1, 2, 3 and 4 in the paper's order.

@@ -2,7 +2,7 @@
 use borrow.Author.Needs.{needs}
 use borrow.Author.Tests.{lt-leb, le-leb}
 use Rattle.search.specs.Search.{over}
-use Rattle.finder.specs.Find.{isTc}
+use Rattle.finder.specs.Wanted.{isTc}
 use Rattle.finder.proofs.is_tc.Statement.{statement}
 use Rattle.finder.proofs.is_tc.Tie as tie
 

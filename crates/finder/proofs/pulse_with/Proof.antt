@@ -8,7 +8,8 @@ use lib.ListN.{length}
 use denote.Ref.{now}
 use Rattle.ground.specs.TestsLaws.{and-left, and-right}
 use Rattle.search.specs.Asked.{IsOver}
-use Rattle.finder.specs.Find.{searchable, isTc}
+use Rattle.finder.specs.Find.{searchable}
+use Rattle.finder.specs.Wanted.{isTc}
 use Rattle.finder.specs.FindLaws.{Searched, searched, is-tc, from-is}
 use Rattle.finder.proofs.pulse_with.Statement.{statement}
 use Rattle.finder.proofs.pulse_with.Tie as tie
