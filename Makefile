@@ -1,6 +1,8 @@
-# The library for C. `make` proves and builds the archive, of two objects: the crates host and hostread. `make install`
+# The library for C. `make` proves and builds the archive, an object for each crate that exports calls. `make install`
 # copies it, with the header, a shared object, the pkg-config file and the man page. Where the archive stands, installing
 # needs a C compiler and no rt.
+EXPORTING = host hostfind hostcheck hostread
+OBJECTS = $(EXPORTING:=.o)
 PREFIX = /usr/local
 LIBDIR = $(PREFIX)/lib
 INCLUDEDIR = $(PREFIX)/include
@@ -14,17 +16,14 @@ INSTALLED = $(LIBDIR)/libfadc250.a $(LIBDIR)/$(SHARED) $(LIBDIR)/pkgconfig/fadc2
 
 .PHONY: all install uninstall
 
-# rt knows what has changed, so that it is asked each time.
-all:
-	@echo "proving the library and all that it leans on, then building it: some minutes the first time"
-	rt staticlib host
-	rt staticlib hostread
-	cd target && ar x staticlib/libhost.a && ar x staticlib/libhostread.a
-	rm -f $(ARCHIVE)
-	cd target && ar rcs libfadc250.a host.o hostread.o && rm host.o hostread.o
+all: $(ARCHIVE)
 
-$(ARCHIVE):
-	@$(MAKE) all
+$(ARCHIVE): crates.txt kit.txt $(shell find crates -name '*.rt' -o -name '*.antt')
+	@echo "proving the library and all that it leans on, then building it: some minutes the first time"
+	for crate in $(EXPORTING); do rt staticlib $$crate || exit 1; done
+	cd target && for crate in $(EXPORTING); do ar x staticlib/lib$$crate.a || exit 1; done
+	rm -f $@
+	cd target && ar rcs $(notdir $@) $(OBJECTS) && rm $(OBJECTS)
 
 install: $(ARCHIVE)
 	install -d $(addprefix $(DESTDIR),$(sort $(dir $(INSTALLED))))

@@ -17,7 +17,8 @@ use Rattle.block.specs.Block.{endItems}
 use Rattle.writer.specs.CallsLaws.{done}
 use Rattle.bytecheck.specs.Check.{checkNumber}
 use Rattle.numbers.specs.Numbers.{isState, table, marksFrom, stateFrom, numbersOf}
-use Rattle.host.specs.Face.{onState, FinishFace}
+use Rattle.numbers.specs.On.{onState}
+use Rattle.host.specs.Face.{FinishFace}
 use Rattle.numbers.specs.BackLaws.{Loads, numbers-back}
 use Rattle.claims.specs.Order.{Bench, Post, PostRun, Apart}
 use Rattle.claims.specs.Order as P

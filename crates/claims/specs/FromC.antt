@@ -16,7 +16,8 @@ use Rattle.writer.specs.Calls.{SetUpSays, FinishSays}
 use Rattle.block.specs.Block.{blockItems}
 use Rattle.refusing.specs.Tables.{closingItems}
 use Rattle.numbers.specs.Numbers.{isState, settingsFrom, stateFrom}
-use Rattle.host.specs.Face.{inHigh, foundNumbers, OpenBlockFace, OpenEventFace, PostFace, CloseFace, FinishFace}
+use Rattle.hostfind.specs.Found.{foundNumbers}
+use Rattle.host.specs.Face.{inHigh, OpenBlockFace, OpenEventFace, PostFace, CloseFace, FinishFace}
 use Rattle.numbers.specs.BackLaws.{Loads}
 use Rattle.claims.specs.Run.{Run}
 use Rattle.claims.specs.Order.{Post, Apart}

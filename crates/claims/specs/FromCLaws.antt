@@ -13,21 +13,23 @@ use Rattle.ground.specs.TestsLaws.{and-left, and-right, numbered}
 use Rattle.refusals.specs.declared.Refusal.{Refusal}
 use Rattle.refusals.specs.declared.Refusal.the-variants as F
 use Rattle.settings.specs.Ranges.{settingsOk}
-use Rattle.refusals.specs.Refusal.{numberOf, badArray}
+use Rattle.refusals.specs.Refusal.{numberOf, badArray, ifAccepted, orElse}
 use Rattle.finder.specs.Find.{packed}
 use Rattle.find.specs.Call.{findTable, findNumber, foundPulses}
 use Rattle.find.specs.RulesLaws.{find-says}
 use Rattle.state.specs.declared.State.{State}
 use Rattle.writer.specs.declared.Answer.{Answer}
 use Rattle.state.specs.State.{stateOk, idle, blank, withEvent}
-use Rattle.writer.specs.Calls.{ifAccepted, OpenBlockSays, OpenEventSays, PostSays, CloseSays}
+use Rattle.writer.specs.Calls.{OpenBlockSays, OpenEventSays, PostSays, CloseSays}
 use Rattle.refusing.specs.Tables.{setUpNumber, openBlockTable, openBlockNumber, openEventTable, openEventNumber, postTable, postNumber, closeTable, closeNumber, finishTable, finishNumber}
 use Rattle.block.specs.Block.{endItems}
 use Rattle.writer.specs.CallsLaws.{done, refused}
 use Rattle.numbers.specs.Numbers.{stateCount, heldIn, isSettings, isState, settingsFrom, table, marksFrom, stateFrom, numbersOf}
-use Rattle.host.specs.Face.{onState, onSettings, orElse, blockOpened, posted, eventClosed, finishOn, inHigh, foundCount, foundNumbers, SetUpFace, OpenBlockFace, OpenEventFace, PostFace, CloseFace, FinishFace, FindFace}
-use Rattle.host.specs.FaceLaws.{none-later}
-use Rattle.host.specs.FoundLaws.{found-or-zeros}
+use Rattle.numbers.specs.On.{onState, onSettings}
+use Rattle.host.specs.Face.{blockOpened, posted, eventClosed, finishOn, inHigh, SetUpFace, OpenBlockFace, OpenEventFace, PostFace, CloseFace, FinishFace}
+use Rattle.hostfind.specs.Found.{foundCount, foundNumbers, FindFace}
+use Rattle.refusals.specs.RefusalLaws.{none-later}
+use Rattle.hostfind.specs.FoundLaws.{found-or-zeros}
 use Rattle.numbers.specs.BackLaws.{Loads, numbers-back}
 use Rattle.host.specs.LoadsLaws.{set-up-loads, open-block-loads, open-event-loads, post-loads, close-loads, finish-loads, finish-below}
 use Rattle.claims.specs.Tables.{Exactly, exactly}

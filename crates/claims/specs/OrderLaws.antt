@@ -12,13 +12,13 @@ use Rattle.ground.specs.Order.{Perm, perm-nil, perm-cons, perm-swap, perm-trans
 use Rattle.ground.specs.OrderLaws.{pairwise-perm, steps-perm}
 use Rattle.ground.specs.Splice.{splice}
 use Rattle.ground.specs.SpliceLaws.{length-splice, splice-comm}
-use Rattle.refusals.specs.Refusal.{numberOf}
+use Rattle.refusals.specs.Refusal.{numberOf, ifAccepted}
 use Rattle.state.specs.declared.Phase.{Phase}
 use Rattle.state.specs.declared.Phase.the-variants as P
 use Rattle.state.specs.declared.State.{State}
 use Rattle.writer.specs.declared.Answer.{Answer}
 use Rattle.state.specs.State.{phaseOk, stateOk, isEvent, withMark}
-use Rattle.writer.specs.Calls.{ifAccepted, rowStart, PostSays}
+use Rattle.writer.specs.Calls.{rowStart, PostSays}
 use Rattle.refusing.specs.Tables.{postTable, postNumber}
 use Rattle.writer.specs.CallsLaws.{done, refused, row-fits}
 use Rattle.refusing.specs.TablesLaws.{PostAccepted, post-accepted}

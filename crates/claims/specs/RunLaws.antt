@@ -14,7 +14,7 @@ use Rattle.ground.specs.SpliceLaws.{take-splice, length-splice}
 use Rattle.settings.specs.declared.Settings.{Settings}
 use Rattle.settings.specs.Ranges.{settingsOk}
 use Rattle.settings.specs.RangesLaws.{InRange, settings-in-range}
-use Rattle.refusals.specs.Refusal.{numberOf}
+use Rattle.refusals.specs.Refusal.{numberOf, ifAccepted}
 use Rattle.framing.specs.declared.filler.Filler.{Filler}
 use Rattle.framing.specs.declared.parameters.Parameters.{Parameters}
 use Rattle.framing.specs.Words as W
@@ -28,7 +28,7 @@ use Rattle.scan.specs.After.{startOf}
 use Rattle.state.specs.declared.State.{State}
 use Rattle.writer.specs.declared.Finished.{Finished}
 use Rattle.state.specs.State.{blockOk, stateOk, withBlock, withEvent, withMark, withClosed}
-use Rattle.writer.specs.Calls.{ifAccepted, FinishSays}
+use Rattle.writer.specs.Calls.{FinishSays}
 use Rattle.block.specs.Block.{blockItems, fillersTo, endItems}
 use Rattle.refusing.specs.Tables.{openBlockNumber, openEventNumber, postNumber, closingItems, closeNumber, finishNumber}
 use Rattle.writer.specs.CallsLaws.{done, refused}

@@ -10,7 +10,7 @@ use Rattle.ground.specs.Tests.{firstOf, FirstIs}
 use Rattle.ground.specs.TestsLaws.{first-is, is-first}
 use Rattle.settings.specs.declared.Settings.{Settings}
 use Rattle.settings.specs.Ranges.{settingsOk}
-use Rattle.refusals.specs.Refusal.{numberOf}
+use Rattle.refusals.specs.Refusal.{numberOf, ifAccepted}
 use Rattle.find.specs.Call.{findTable, findNumber, FindSays}
 use Rattle.find.specs.declared.FindAnswer.{FindAnswer}
 use Rattle.scan.specs.declared.Scan.{Scan}
@@ -24,7 +24,7 @@ use Rattle.state.specs.declared.State.{State}
 use Rattle.writer.specs.declared.Answer.{Answer}
 use Rattle.writer.specs.declared.Finished.{Finished}
 use Rattle.state.specs.State.{stateOk}
-use Rattle.writer.specs.Calls.{ifAccepted, SetUpSays, OpenBlockSays, OpenEventSays, PostSays, CloseSays, FinishSays}
+use Rattle.writer.specs.Calls.{SetUpSays, OpenBlockSays, OpenEventSays, PostSays, CloseSays, FinishSays}
 use Rattle.refusing.specs.Tables.{setUpNumber, openBlockTable, openBlockNumber, openEventTable, openEventNumber, postTable, postNumber, closeTable, closeNumber, finishTable, finishNumber}
 use Rattle.writer.specs.CallsLaws.{done}
 use Rattle.writer.specs.KeptLaws.{set-up-kept, open-block-kept, open-event-kept, post-kept, closing-kept, finish-kept}

@@ -32,9 +32,12 @@ use Rattle.rawitems.specs.declared.Pairs.{Pairs}
 use Rattle.rawitems.specs.Pairs.{partOf}
 use Rattle.records.specs.Answers.{NextSays}
 use Rattle.host.proofs as host
+use Rattle.hostcheck.proofs as hostcheck
+use Rattle.hostfind.proofs as hostfind
 use Rattle.hostread.proofs as hostread
 use Rattle.bytecheck.specs.Check.{checkNumber}
-use Rattle.host.specs.Face.{SetUpFace, OpenBlockFace, OpenEventFace, PostFace, CloseFace, FinishFace, FindFace}
+use Rattle.host.specs.Face.{SetUpFace, OpenBlockFace, OpenEventFace, PostFace, CloseFace, FinishFace}
+use Rattle.hostfind.specs.Found.{FindFace}
 use Rattle.reading.specs.Reading.{NextFace}
 use Rattle.listing.proofs as listing
 use Rattle.listing.specs.declared.Listed.{Listed}
@@ -78,38 +81,38 @@ find-tied κs settings channel window r p = p
 -- ---- the same from C
 
 pub fadc250-set-up-tied : (κs : Lfts 2) (settings state state′ : Reference) (r : ℕ)
-    → host.calls.fadc250_set_up.Reads.Learnt κs (settings, (state, tt)) r (settings, (state′, tt)) → SetUpFace (now settings) (now state) r (now state′)
+    → host.fadc250_set_up.Reads.Learnt κs (settings, (state, tt)) r (settings, (state′, tt)) → SetUpFace (now settings) (now state) r (now state′)
 fadc250-set-up-tied κs settings state state′ r p = p
 
 pub fadc250-open-block-tied : (κs : Lfts 2) (state state′ words words′ : Reference) (number events r : ℕ)
-    → host.calls.fadc250_open_block.Reads.Learnt κs (state, (words, (number, (events, tt)))) r (state′, (words′, (number, (events, tt))))
+    → host.fadc250_open_block.Reads.Learnt κs (state, (words, (number, (events, tt)))) r (state′, (words′, (number, (events, tt))))
     → OpenBlockFace (now state) (now words) number events r (now state′) (now words′)
 fadc250-open-block-tied κs state state′ words words′ number events r p = p
 
 pub fadc250-open-event-tied : (κs : Lfts 1) (state state′ : Reference) (number time r : ℕ)
-    → host.calls.fadc250_open_event.Reads.Learnt κs (state, (number, (time, tt))) r (state′, (number, (time, tt))) → OpenEventFace (now state) number time r (now state′)
+    → host.fadc250_open_event.Reads.Learnt κs (state, (number, (time, tt))) r (state′, (number, (time, tt))) → OpenEventFace (now state) number time r (now state′)
 fadc250-open-event-tied κs state state′ number time r p = p
 
 pub fadc250-post-tied : (κs : Lfts 3) (state state′ store store′ : Reference) (channel : ℕ) (window : Reference) (r : ℕ)
-    → host.calls.fadc250_post.Reads.Learnt κs (state, (store, (channel, (window, tt)))) r (state′, (store′, (channel, (window, tt))))
+    → host.fadc250_post.Reads.Learnt κs (state, (store, (channel, (window, tt)))) r (state′, (store′, (channel, (window, tt))))
     → PostFace (now state) (now store) channel (now window) r (now state′) (now store′)
 fadc250-post-tied κs state state′ store store′ channel window r p = p
 
 pub fadc250-close-tied : (κs : Lfts 3) (state state′ store words words′ : Reference) (r : ℕ)
-    → host.calls.fadc250_close.Reads.Learnt κs (state, (store, (words, tt))) r (state′, (store, (words′, tt))) → CloseFace (now state) (now store) (now words) r (now state′) (now words′)
+    → host.fadc250_close.Reads.Learnt κs (state, (store, (words, tt))) r (state′, (store, (words′, tt))) → CloseFace (now state) (now store) (now words) r (now state′) (now words′)
 fadc250-close-tied κs state state′ store words words′ r p = p
 
 pub fadc250-finish-tied : (κs : Lfts 2) (state state′ words words′ : Reference) (r : ℕ)
-    → host.calls.fadc250_finish.Reads.Learnt κs (state, (words, tt)) r (state′, (words′, tt)) → FinishFace (now state) (now words) r (now state′) (now words′)
+    → host.fadc250_finish.Reads.Learnt κs (state, (words, tt)) r (state′, (words′, tt)) → FinishFace (now state) (now words) r (now state′) (now words′)
 fadc250-finish-tied κs state state′ words words′ r p = p
 
 pub fadc250-find-tied : (κs : Lfts 3) (settings : Reference) (channel : ℕ) (window out out′ : Reference) (r : ℕ)
-    → host.found.fadc250_find.Reads.Learnt κs (settings, (channel, (window, (out, tt)))) r (settings, (channel, (window, (out′, tt))))
+    → hostfind.fadc250_find.Reads.Learnt κs (settings, (channel, (window, (out, tt)))) r (settings, (channel, (window, (out′, tt))))
     → FindFace (now settings) channel (now window) (now out) r (now out′)
 fadc250-find-tied κs settings channel window out out′ r p = p
 
 pub fadc250-check-tied : (κs : Lfts 1) (bytes : Reference) (r : ℕ)
-    → host.fadc250_check.Reads.Learnt κs (bytes, tt) r (bytes, tt) → r ≡ checkNumber (now bytes)
+    → hostcheck.fadc250_check.Reads.Learnt κs (bytes, tt) r (bytes, tt) → r ≡ checkNumber (now bytes)
 fadc250-check-tied κs bytes r p = p
 
 -- ---- reading

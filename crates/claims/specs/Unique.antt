@@ -58,8 +58,11 @@ use Rattle.numbers.proofs as numbers
 use Rattle.runs.proofs as runs
 use Rattle.bytecheck.proofs as bytecheck
 use Rattle.host.proofs as host
+use Rattle.hostcheck.proofs as hostcheck
+use Rattle.hostfind.proofs as hostfind
 use Rattle.hostread.proofs as hostread
 use Rattle.host.specs.UniqueLaws as H
+use Rattle.hostfind.specs.UniqueLaws as found
 use Rattle.text.proofs as text
 use Rattle.text.specs.Page.{Page}
 use Rattle.lines.proofs as lines
@@ -351,6 +354,9 @@ number-unique κs a r s u v p q = by-equation p q
 pub accepted-unique : Unique refusals.accepted.ended refusals.accepted.Reads.Learnt
 accepted-unique κs a r s u v p q = by-equation p q
 
+pub or-bad-array-unique : Unique refusals.or_bad_array.ended refusals.or_bad_array.Reads.Learnt
+or-bad-array-unique κs a r s u v p q = by-equation p q
+
 -- samples
 pub amplitude-unique : Unique samples.amplitude.ended samples.amplitude.Reads.Learnt
 amplitude-unique κs a r s u v p q = by-equation (p .0) (q .0)
@@ -605,7 +611,7 @@ pub part-unique : (κs : Lfts 1) (a : Args (rawitems.part.ended .signature) κs)
 part-unique κs a r s p q = one-result p q
 
 -- host
-pub fadc250-check-unique : Unique host.fadc250_check.ended host.fadc250_check.Reads.Learnt
+pub fadc250-check-unique : Unique hostcheck.fadc250_check.ended hostcheck.fadc250_check.Reads.Learnt
 fadc250-check-unique κs a r s u v p q = by-equation p q
 
 -- ---- from C
@@ -640,26 +646,26 @@ pub put-state-unique : Unique numbers.store.put_state.ended numbers.store.put_st
 put-state-unique κs a r s u v p q = (refl, λ i. (one-result p q i, u .1))
 
 -- host
-pub fadc250-set-up-unique : Unique host.calls.fadc250_set_up.ended host.calls.fadc250_set_up.Reads.Learnt
+pub fadc250-set-up-unique : Unique host.fadc250_set_up.ended host.fadc250_set_up.Reads.Learnt
 fadc250-set-up-unique κs a r s u v p q = let e = H.set-up-face-unique _ _ _ _ _ _ p q in (e .0, λ i. (tt, (e .1 i, tt)))
 
-pub fadc250-open-block-unique : Unique host.calls.fadc250_open_block.ended host.calls.fadc250_open_block.Reads.Learnt
+pub fadc250-open-block-unique : Unique host.fadc250_open_block.ended host.fadc250_open_block.Reads.Learnt
 fadc250-open-block-unique κs a r s u v p q = let e = H.open-block-face-unique _ _ _ _ _ _ _ _ _ _ p q in (e .0, λ i. (e .1 .0 i, (e .1 .1 i, u .1 .1)))
 
-pub fadc250-open-event-unique : Unique host.calls.fadc250_open_event.ended host.calls.fadc250_open_event.Reads.Learnt
+pub fadc250-open-event-unique : Unique host.fadc250_open_event.ended host.fadc250_open_event.Reads.Learnt
 fadc250-open-event-unique κs a r s u v p q = let e = H.open-event-face-unique _ _ _ _ _ _ _ p q in (e .0, λ i. (e .1 i, u .1))
 
-pub fadc250-post-unique : Unique host.calls.fadc250_post.ended host.calls.fadc250_post.Reads.Learnt
+pub fadc250-post-unique : Unique host.fadc250_post.ended host.fadc250_post.Reads.Learnt
 fadc250-post-unique κs a r s u v p q = let e = H.post-face-unique _ _ _ _ _ _ _ _ _ _ p q in (e .0, λ i. (e .1 .0 i, (e .1 .1 i, u .1 .1)))
 
-pub fadc250-close-unique : Unique host.calls.fadc250_close.ended host.calls.fadc250_close.Reads.Learnt
+pub fadc250-close-unique : Unique host.fadc250_close.ended host.fadc250_close.Reads.Learnt
 fadc250-close-unique κs a r s u v p q = let e = H.close-face-unique _ _ _ _ _ _ _ _ _ p q in (e .0, λ i. (e .1 .0 i, (tt, (e .1 .1 i, tt))))
 
-pub fadc250-finish-unique : Unique host.calls.fadc250_finish.ended host.calls.fadc250_finish.Reads.Learnt
+pub fadc250-finish-unique : Unique host.fadc250_finish.ended host.fadc250_finish.Reads.Learnt
 fadc250-finish-unique κs a r s u v p q = let e = H.finish-face-unique _ _ _ _ _ _ _ _ p q in (e .0, λ i. (e .1 .0 i, (e .1 .1 i, tt)))
 
-pub fadc250-find-unique : Unique host.found.fadc250_find.ended host.found.fadc250_find.Reads.Learnt
-fadc250-find-unique κs a r s u v p q = let e = H.find-face-unique _ _ _ _ _ _ _ _ p q in (e .0, λ i. (tt, (tt, (tt, (e .1 i, tt)))))
+pub fadc250-find-unique : Unique hostfind.fadc250_find.ended hostfind.fadc250_find.Reads.Learnt
+fadc250-find-unique κs a r s u v p q = let e = found.find-face-unique _ _ _ _ _ _ _ _ p q in (e .0, λ i. (tt, (tt, (tt, (e .1 i, tt)))))
 
 -- ---- listing
 

@@ -6,33 +6,17 @@ use mathlib.Core.List.{List, [], _∷_, _++_}
 use lib.Dec.{eqb, ltb}
 use lib.ListN.{length, getD, set, replicate}
 use Rattle.ground.specs.Splice.{splice}
-use Rattle.refusals.specs.Refusal.{numberOf, badArray}
-use Rattle.refusals.specs.declared.Refusal.the-variants as R
-use Rattle.finder.specs.declared.Pulse.{Pulse}
-use Rattle.finder.specs.declared.Pulses.{Pulses}
-use Rattle.finder.specs.Find.{noPulse, packed, ruleNumber}
-use Rattle.find.specs.Call.{findNumber, foundPulses}
+use Rattle.refusals.specs.Refusal.{badArray, ifAccepted, orElse}
 use Rattle.state.specs.declared.State.{State}
 use Rattle.state.specs.State.{idle, withBlock, withEvent, withMark, withClosed}
-use Rattle.numbers.specs.Numbers.{stateCount, isSettings, isState, settingsFrom, stateFrom, numbersOf}
+use Rattle.numbers.specs.Numbers.{stateCount, settingsFrom, stateFrom, numbersOf}
+use Rattle.numbers.specs.On.{onState, onSettings}
 use Rattle.items.specs.Items.{wordsOf}
-use Rattle.writer.specs.Calls.{ifAccepted, rowStart}
+use Rattle.writer.specs.Calls.{rowStart}
 use Rattle.refusing.specs.Tables.{setUpNumber, openBlockNumber, openEventNumber, postNumber, closingItems, closeNumber, finishNumber}
 use Rattle.block.specs.Block.{blockItems, endItems}
 
 -- ---- the calls; `r` is the number that C gets, `n` the state's numbers, `n′` those after the call
-
--- the number of a call on numbers: for those that are no state, "state breaks its ranges"
-abbrev pub onState : List ℕ → ℕ → ℕ
-onState n number = cond (isState n) number (numberOf R.State)
-
--- the same for settings: for numbers that are none, "a setting out of range"
-abbrev pub onSettings : List ℕ → ℕ → ℕ
-onSettings n number = cond (isSettings n) number (numberOf R.Setting)
-
--- a refusal, or where there is none a later one
-abbrev pub orElse : ℕ → ℕ → ℕ
-orElse number later = cond (eqb number 0) later number
 
 -- the states that opening a block, posting and closing give
 abbrev pub blockOpened : State → ℕ → ℕ → State
@@ -81,31 +65,3 @@ pub record FinishFace (n words : List ℕ) (r : ℕ) (n′ words′ : List ℕ) 
   pub numbers : n′ ≡ ifAccepted (finishOn n (length words)) (numbersOf (idle (stateFrom n .settings))) n
   pub buffer : words′
       ≡ ifAccepted (finishOn n (length words)) (splice words (stateFrom n .words) (wordsOf (endItems (stateFrom n .settings) (stateFrom n .words)))) words
-
--- ---- the finder
-
--- TC, first, last, sum before the cap, coarse, fine, VMIN, VPEAK, and the rule that gave the time
-unfoldable pub pulseNumbers : Pulse → List ℕ
-pulseNumbers p =
-    p .tc ∷ p .first ∷ p .last ∷ p .sum ∷ p .time .coarse ∷ p .time .fine ∷ p .time .vmin ∷ p .time .vpeak ∷ ruleNumber (p .time .rule) ∷ []
-
--- how many they are
-abbrev pub pulseCount : ℕ
-pulseCount = 9
-
--- the numbers of a place, zeros past the count
-unfoldable pub pulseRow : Pulses → ℕ → List ℕ
-pulseRow found i = cond (ltb i (found .count)) (pulseNumbers (getD (found .pulses) i noPulse)) (replicate pulseCount 0)
-
--- the count, then the numbers of three places
-abbrev pub foundCount : ℕ
-foundCount = 1 + 3 * pulseCount
-
-unfoldable pub foundNumbers : Pulses → List ℕ
-foundNumbers found = found .count ∷ (pulseRow found 0 ++ (pulseRow found 1 ++ pulseRow found 2))
-
--- fewer lent stay; a refused call leaves zeros, "and then no pulses", so that no older window's are taken for this one's; what is past them stays
-pub record FindFace (settings : List ℕ) (c : ℕ) (w out : List ℕ) (r : ℕ) (out′ : List ℕ) : Type 0 where
-  pub number : r ≡ orElse (onSettings settings (findNumber (settingsFrom settings) c w)) (cond (ltb (length out) foundCount) badArray 0)
-  pub numbers : out′
-      ≡ cond (ltb (length out) foundCount) out (splice out 0 (ifAccepted r (foundNumbers (packed (foundPulses (settingsFrom settings) c w))) (replicate foundCount 0)))

@@ -13,8 +13,8 @@ use Rattle.ground.specs.Tests.{firstOf}
 use Rattle.copies.specs.Copies.{pasted}
 use Rattle.copies.specs.CopiesLaws.{pasted-fits}
 use Rattle.settings.specs.declared.Settings.{Settings}
-use Rattle.settings.specs.Ranges.{ranges, settingsOk}
-use Rattle.refusals.specs.Refusal.{numberOf, badArray}
+use Rattle.refusals.specs.Refusal.{numberOf, badArray, ifAccepted, orElse}
+use Rattle.refusals.specs.RefusalLaws.{none-later}
 use Rattle.refusals.specs.declared.Refusal.the-variants as R
 use Rattle.items.specs.Items.{wordsOf}
 use Rattle.state.specs.declared.State.{State}
@@ -22,16 +22,18 @@ use Rattle.state.specs.State.{idle, blank, withBlock, withEvent, withClosed}
 use Rattle.state.specs.StateLaws.{blank-out}
 use Rattle.writer.specs.declared.Answer.{Answer}
 use Rattle.writer.specs.declared.Finished.{Finished}
-use Rattle.writer.specs.Calls.{ifAccepted, SetUpSays, OpenBlockSays, OpenEventSays, rowStart, PostSays, CloseSays, FinishSays}
+use Rattle.writer.specs.Calls.{SetUpSays, OpenBlockSays, OpenEventSays, rowStart, PostSays, CloseSays, FinishSays}
 use Rattle.refusing.specs.Tables.{setUpNumber, openBlockTable, openBlockNumber, openEventTable, openEventNumber, postTable, postNumber, closingItems, closeTable, closeNumber, finishTable, finishNumber}
 use Rattle.refusing.specs.TablesLaws.{post-accepted}
 use Rattle.block.specs.Block.{blockItems, endItems}
 use Rattle.writer.specs.CallsLaws.{done}
 use Rattle.numbers.specs.Numbers.{marksAt, headCount, stateCount, isSettings, isState, settingsFrom, stateFrom, settingsOrNone, stateOrNone, settingsNumbers, headOf, numbersOf, headStored, stateStored}
+use Rattle.numbers.specs.On.{onState, onSettings}
+use Rattle.numbers.specs.OnLaws.{none-out, settings-number, settings-accepted}
 use Rattle.numbers.specs.NumbersLaws.{settings-count, state-count, state-settings-held, head-held}
 use Rattle.numbers.specs.StoreLaws.{head-over}
 use Rattle.numbers.specs.BackLaws.{settings-back, event-stored, mark-stored}
-use Rattle.host.specs.Face.{onState, onSettings, orElse, blockOpened, posted, eventClosed, finishOn, inHigh, SetUpFace, OpenBlockFace, OpenEventFace, PostFace, CloseFace, FinishFace}
+use Rattle.host.specs.Face.{blockOpened, posted, eventClosed, finishOn, inHigh, SetUpFace, OpenBlockFace, OpenEventFace, PostFace, CloseFace, FinishFace}
 use Rattle.host.specs.Inner.{Kept, eventPlaced, MarkFits, markPlaced}
 
 -- the head of a state with these settings, over the numbers
@@ -100,37 +102,6 @@ kept-done n number s n′ e f = record { answer = sym (eqb-true number 0 e); lef
 
 pub kept-refused : (n : List ℕ) (number : ℕ) (s : State) (r : ℕ) → eqb number 0 ≡ false → r ≡ number → Kept n number s r n
 kept-refused n number s r e f = record { answer = f; left = rw e }
-
--- ---- settings
-
--- no later refusal
-pub none-later : (k : ℕ) → orElse k 0 ≡ k
-none-later k = go (eqb k 0) refl
-  where
-    go : (b : Bool) → eqb k 0 ≡ b → cond b 0 k ≡ k
-    go true e = sym (eqb-true k 0 e)
-    go false e = refl
-
--- what stands for none is out of range
-pub none-out : settingsOk (blank .settings) ≡ false
-unfolding blank idle settingsOk ranges
-none-out = refl
-
-module _ (m : List ℕ) (number : Settings → ℕ) (none : number (blank .settings) ≡ numberOf R.Setting) where
-  -- so that numbers that are no settings are refused as it is
-  pub settings-number : number (settingsOrNone m) ≡ onSettings m (number (settingsFrom m))
-  settings-number = go (isSettings m)
-    where
-      go : (b : Bool) → number (cond b (settingsFrom m) (blank .settings)) ≡ cond b (number (settingsFrom m)) (numberOf R.Setting)
-      go true = refl
-      go false = none
-
-  settings-accepted : number (settingsOrNone m) ≡ 0 → isSettings m ≡ true
-  settings-accepted e = go (isSettings m) e
-    where
-      go : (b : Bool) → number (cond b (settingsFrom m) (blank .settings)) ≡ 0 → b ≡ true
-      go true p = refl
-      go false p = absurd (omega (arith, p, none))
 
 -- ---- set up
 

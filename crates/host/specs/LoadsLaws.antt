@@ -9,7 +9,7 @@ use lib.Dec.{eqb}
 use lib.ListN.{length, drop, length-set}
 use Rattle.ground.specs.Tests.{oneOf}
 use Rattle.settings.specs.RangesLaws.{settings-in-range}
-use Rattle.refusals.specs.Refusal.{numberOf, badArray}
+use Rattle.refusals.specs.Refusal.{numberOf, badArray, orElse}
 use Rattle.refusals.specs.declared.Refusal.the-variants as R
 use Rattle.state.specs.declared.State.{State}
 use Rattle.state.specs.State.{stateOk, idle, withBlock, withEvent, withMark, withClosed}
@@ -21,7 +21,7 @@ use Rattle.block.specs.BlockLaws.{end-length, multiple-positive, fillers-lt}
 use Rattle.numbers.specs.Numbers.{headCount, stateCount, isSettings, isState, settingsFrom, table, marksFrom, stateFrom, numbersOf}
 use Rattle.numbers.specs.NumbersLaws.{state-settings-held}
 use Rattle.numbers.specs.BackLaws.{Loads, state-back}
-use Rattle.host.specs.Face.{blockOpened, posted, eventClosed, finishOn, orElse, SetUpFace, OpenBlockFace, OpenEventFace, PostFace, CloseFace, FinishFace}
+use Rattle.host.specs.Face.{blockOpened, posted, eventClosed, finishOn, SetUpFace, OpenBlockFace, OpenEventFace, PostFace, CloseFace, FinishFace}
 
 sixteen : (n : List ℕ) → length (stateFrom n .posted) ≡ 16
 unfolding stateFrom marksFrom table

@@ -3,7 +3,7 @@ use Prim.Native.Nat.{ℕ}
 use mathlib.Core.Path.{_≡_, subst}
 use mathlib.Core.List.{List}
 use Rattle.ground.specs.ResultLaws.{one-result}
-use Rattle.host.specs.Face.{SetUpFace, OpenBlockFace, OpenEventFace, PostFace, CloseFace, FinishFace, FindFace}
+use Rattle.host.specs.Face.{SetUpFace, OpenBlockFace, OpenEventFace, PostFace, CloseFace, FinishFace}
 
 pub set-up-face-unique : (m n : List ℕ) (r q : ℕ) (x y : List ℕ) → SetUpFace m n r x → SetUpFace m n q y → (r ≡ q) × (x ≡ y)
 set-up-face-unique m n r q x y f g =
@@ -41,9 +41,3 @@ close-face-unique n store words r q x y u v f g =
 pub finish-face-unique : (n words : List ℕ) (r q : ℕ) (x y u v : List ℕ) → FinishFace n words r x u → FinishFace n words q y v → (r ≡ q) × ((x ≡ y) × (u ≡ v))
 finish-face-unique n words r q x y u v f g =
     (one-result (f .number) (g .number), (one-result (f .numbers) (g .numbers), one-result (f .buffer) (g .buffer)))
-
-pub find-face-unique : (m : List ℕ) (c : ℕ) (w out : List ℕ) (r q : ℕ) (x y : List ℕ) → FindFace m c w out r x → FindFace m c w out q y → (r ≡ q) × (x ≡ y)
-find-face-unique m c w out r q x y f g =
-    let e = one-result (f .number) (g .number) in
-    let h = subst (λ (k : ℕ). FindFace m c w out k x) e f in
-    (e, one-result (h .numbers) (g .numbers))

@@ -1,5 +1,7 @@
 -- The paper's number of each refusal: document 01, the tables of "One event, one store" and of "Reading". Assumes nothing.
 use Prim.Native.Nat.{ℕ}
+use mathlib.Core.Bool.{cond}
+use lib.Dec.{eqb}
 use Rattle.refusals.specs.declared.Refusal.{Refusal}
 use Rattle.refusals.specs.declared.Refusal.the-variants.{None, Setting, Store, Sample, Channel, Length, Posted, Turn, Number, Room, State, Missing, Unallowed, Bits, Count, Slot, Bytes}
 
@@ -42,3 +44,11 @@ numberOf Bytes = 16
 -- from C: an array is not as long as the header says, or holds what it cannot hold. It is no number of the paper's table
 abbrev pub badArray : ℕ
 badArray = 64
+
+-- what is left where the number is 0, the call accepted, and where it is not: "Every other refusal hands back the same state; store and words stay as lent."
+abbrev pub ifAccepted : {A : Type 0} → ℕ → A → A → A
+ifAccepted number new old = cond (eqb number 0) new old
+
+-- a refusal, or where there is none a later one
+abbrev pub orElse : ℕ → ℕ → ℕ
+orElse number later = ifAccepted number later number

@@ -1,7 +1,7 @@
 // The refusals, and the paper's number of each.
 ghost use mathlib.Core.Path.{_≡_};
 ghost use lib.Dec.{eqb};
-ghost use Rattle.refusals.specs.Refusal.{numberOf};
+ghost use Rattle.refusals.specs.Refusal.{numberOf, badArray, orElse};
 
 // Why a call, a word or an input is refused; `None` where it is not. The paper's numbers are 0 to 16 in this order.
 pub enum Refusal {
@@ -73,4 +73,14 @@ pub fn accepted(refusal: Refusal) -> bool
     ensures { λ r. ⌜ r ≡ eqb (numberOf refusal) 0 ⌝ }
 {
     number(refusal) == 0
+}
+
+// What a call from C answers whose array is not as long as the header says: 64, after the paper's numbers.
+pub fn or_bad_array(refusal: Refusal) -> u32
+    ensures { λ r. ⌜ r ≡ orElse (numberOf refusal) badArray ⌝ }
+{
+    if accepted(refusal) {
+        return BAD_ARRAY;
+    }
+    number(refusal)
 }

@@ -7,7 +7,7 @@ use lib.ListN.{length, set}
 use lib.Dec.{eqb}
 use Rattle.ground.specs.Splice.{splice}
 use Rattle.settings.specs.declared.Settings.{Settings}
-use Rattle.refusals.specs.Refusal.{numberOf}
+use Rattle.refusals.specs.Refusal.{numberOf, ifAccepted}
 use Rattle.items.specs.Items.{wordsOf}
 use Rattle.block.specs.Block.{blockItems, endItems}
 use Rattle.state.specs.declared.State.{State}
@@ -15,10 +15,6 @@ use Rattle.state.specs.State.{idle, blank, withBlock, withEvent, withMark, with
 use Rattle.refusing.specs.Tables.{setUpNumber, openBlockNumber, openEventNumber, postNumber, closingItems, closeNumber, finishNumber}
 use Rattle.writer.specs.declared.Answer.{Answer}
 use Rattle.writer.specs.declared.Finished.{Finished}
-
--- what is left where the number is 0, the call accepted, and where it is not: "Every other refusal hands back the same state; store and words stay as lent."
-abbrev pub ifAccepted : {A : Type 0} → ℕ → A → A → A
-ifAccepted number new old = cond (eqb number 0) new old
 
 -- ---- set up
 

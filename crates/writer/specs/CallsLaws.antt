@@ -12,7 +12,8 @@ use Rattle.items.specs.ItemsLaws.{length-words}
 use Rattle.rows.specs.RowsLaws.{row-end}
 use Rattle.state.specs.declared.State.{State}
 use Rattle.refusing.specs.TablesLaws.{PostAccepted}
-use Rattle.writer.specs.Calls.{ifAccepted, rowStart}
+use Rattle.refusals.specs.Refusal.{ifAccepted}
+use Rattle.writer.specs.Calls.{rowStart}
 
 pub done : {A : Type 0} {n : ℕ} (new old : A) → n ≡ 0 → ifAccepted n new old ≡ new
 done new old e = rw e

@@ -1,0 +1,14 @@
+-- `host::in_high` meets its contract. Assumes nothing.
+use borrow.Author.Needs.{needs}
+use borrow.Author.Tests.{eq-eqb, ne-eqb}
+use Rattle.host.proofs.in_high.Statement.{statement}
+use Rattle.host.proofs.in_high.Tie as tie
+
+returns : tie.Need-returns
+returns c = rw (eq-eqb _ _ (c .if1 .taken))
+
+returns-2 : tie.Need-returns-2
+returns-2 c = rw (ne-eqb _ _ (c .if1 .left))
+
+pub in-high-spec : {M : Type 1} → statement M
+in-high-spec = tie.close (tie.spec returns (λ c. search needs) returns-2)
