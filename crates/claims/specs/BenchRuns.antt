@@ -16,7 +16,8 @@ use Rattle.state.specs.declared.State.{State}
 use Rattle.writer.specs.declared.Answer.{Answer}
 use Rattle.writer.specs.declared.Finished.{Finished}
 use Rattle.state.specs.State.{idle, withBlock, withEvent, withMark, withClosed}
-use Rattle.writer.specs.Calls.{OpenBlockSays, OpenEventSays, PostSays, CloseSays, FinishSays}
+use Rattle.writer.specs.Calls.{OpenBlockSays, OpenEventSays, PostSays, FinishSays}
+use Rattle.closing.specs.Closing.{CloseSays}
 use Rattle.listing.specs.Listing.{listingOf}
 use Rattle.bytecheck.specs.Check.{numberOfOut}
 use Rattle.layout.specs.NothingLost.{AllWords}

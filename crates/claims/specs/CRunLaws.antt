@@ -12,7 +12,8 @@ use Rattle.channel.specs.Channel.{commonOf, channelWords}
 use Rattle.scan.specs.After.{startOf}
 use Rattle.state.specs.declared.State.{State}
 use Rattle.writer.specs.declared.Finished.{Finished}
-use Rattle.writer.specs.Calls.{OpenEventSays, CloseSays, FinishSays}
+use Rattle.writer.specs.Calls.{OpenEventSays, FinishSays}
+use Rattle.closing.specs.Closing.{CloseSays}
 use Rattle.block.specs.Block.{endItems}
 use Rattle.writer.specs.CallsLaws.{done}
 use Rattle.bytecheck.specs.Check.{checkNumber}

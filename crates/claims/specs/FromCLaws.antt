@@ -20,7 +20,8 @@ use Rattle.find.specs.RulesLaws.{find-says}
 use Rattle.state.specs.declared.State.{State}
 use Rattle.writer.specs.declared.Answer.{Answer}
 use Rattle.state.specs.State.{stateOk, idle, blank, withEvent}
-use Rattle.writer.specs.Calls.{OpenBlockSays, OpenEventSays, PostSays, CloseSays}
+use Rattle.writer.specs.Calls.{OpenBlockSays, OpenEventSays, PostSays}
+use Rattle.closing.specs.Closing.{CloseSays}
 use Rattle.refusing.specs.Tables.{setUpNumber, openBlockTable, openBlockNumber, openEventTable, openEventNumber, postTable, postNumber, closeTable, closeNumber, finishTable, finishNumber}
 use Rattle.block.specs.Block.{endItems}
 use Rattle.writer.specs.CallsLaws.{done, refused}

@@ -13,7 +13,8 @@ use Rattle.settings.specs.declared.Settings.{Settings}
 use Rattle.refusals.specs.Refusal.{numberOf}
 use Rattle.state.specs.declared.State.{State}
 use Rattle.writer.specs.declared.Answer.{Answer}
-use Rattle.writer.specs.Calls.{OpenEventSays, CloseSays}
+use Rattle.writer.specs.Calls.{OpenEventSays}
+use Rattle.closing.specs.Closing.{CloseSays}
 use Rattle.claims.specs.Order.{Bench, Post, PostRun, Apart}
 
 -- ---- one event, by the contracts of its calls

@@ -9,7 +9,8 @@ use Rattle.state.specs.declared.State.{State}
 use Rattle.writer.specs.declared.Answer.{Answer}
 use Rattle.writer.specs.declared.Finished.{Finished}
 use Rattle.block.specs.Block.{blockItems}
-use Rattle.writer.specs.Calls.{OpenBlockSays, OpenEventSays, PostSays, CloseSays, FinishSays}
+use Rattle.writer.specs.Calls.{OpenBlockSays, OpenEventSays, PostSays, FinishSays}
+use Rattle.closing.specs.Closing.{CloseSays}
 use Rattle.refusing.specs.Tables.{closingItems}
 
 pub data Run : State → List ℕ → List Item → Type 0 where

@@ -18,7 +18,8 @@ use Rattle.channel.specs.Channel.{commonOf, channelItems}
 use Rattle.event.specs.Event.{timeItems}
 use Rattle.writer.specs.declared.Answer.{Answer}
 use Rattle.writer.specs.declared.Finished.{Finished}
-use Rattle.writer.specs.Calls.{SetUpSays, OpenBlockSays, OpenEventSays, PostSays, CloseSays, FinishSays}
+use Rattle.writer.specs.Calls.{SetUpSays, OpenBlockSays, OpenEventSays, PostSays, FinishSays}
+use Rattle.closing.specs.Closing.{CloseSays}
 use Rattle.block.specs.Block.{blockItems, endItems}
 use Rattle.bytecheck.specs.Check.{checkNumber}
 use Rattle.listing.specs.Listing.{listingOf}

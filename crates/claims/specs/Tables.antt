@@ -24,7 +24,8 @@ use Rattle.state.specs.declared.State.{State}
 use Rattle.writer.specs.declared.Answer.{Answer}
 use Rattle.writer.specs.declared.Finished.{Finished}
 use Rattle.state.specs.State.{stateOk}
-use Rattle.writer.specs.Calls.{SetUpSays, OpenBlockSays, OpenEventSays, PostSays, CloseSays, FinishSays}
+use Rattle.writer.specs.Calls.{SetUpSays, OpenBlockSays, OpenEventSays, PostSays, FinishSays}
+use Rattle.closing.specs.Closing.{CloseSays}
 use Rattle.refusing.specs.Tables.{setUpNumber, openBlockTable, openBlockNumber, openEventTable, openEventNumber, postTable, postNumber, closeTable, closeNumber, finishTable, finishNumber}
 use Rattle.writer.specs.CallsLaws.{done}
 use Rattle.writer.specs.KeptLaws.{set-up-kept, open-block-kept, open-event-kept, post-kept, closing-kept, finish-kept}

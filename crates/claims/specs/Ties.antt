@@ -10,10 +10,12 @@ use Rattle.find.proofs as find
 use Rattle.find.specs.declared.FindAnswer.{FindAnswer}
 use Rattle.find.specs.Call.{FindSays}
 use Rattle.writer.proofs as writer
+use Rattle.closing.proofs as closing
 use Rattle.state.specs.declared.State.{State}
 use Rattle.writer.specs.declared.Answer.{Answer}
 use Rattle.writer.specs.declared.Finished.{Finished}
-use Rattle.writer.specs.Calls.{SetUpSays, OpenBlockSays, OpenEventSays, PostSays, CloseSays, FinishSays}
+use Rattle.writer.specs.Calls.{SetUpSays, OpenBlockSays, OpenEventSays, PostSays, FinishSays}
+use Rattle.closing.specs.Closing.{CloseSays}
 use Rattle.scan.proofs as scan
 use Rattle.reader.proofs as reader
 use Rattle.scan.specs.declared.Scan.{Scan}
@@ -67,7 +69,7 @@ pub post-tied : (κs : Lfts 2) (state : State) (store store′ : Reference) (cha
 post-tied κs state store store′ channel window r p = p
 
 pub close-tied : (κs : Lfts 2) (state : State) (store words words′ : Reference) (r : Answer)
-    → writer.close.Reads.Learnt κs (state, (store, (words, tt))) r (state, (store, (words′, tt))) → CloseSays state (now store) (now words) r (now words′)
+    → closing.close.Reads.Learnt κs (state, (store, (words, tt))) r (state, (store, (words′, tt))) → CloseSays state (now store) (now words) r (now words′)
 close-tied κs state store words words′ r p = p
 
 pub finish-tied : (κs : Lfts 1) (state : State) (words words′ : Reference) (r : Finished)

@@ -44,6 +44,8 @@ use Rattle.state.proofs as state
 use Rattle.block.proofs as block
 use Rattle.refusing.proofs as refusing
 use Rattle.writer.proofs as writer
+use Rattle.closing.proofs as closing
+use Rattle.closing.specs.ClosingLaws as closed
 use Rattle.writer.specs.UniqueLaws as W
 use Rattle.scan.proofs as scan
 use Rattle.questions.proofs as questions
@@ -530,8 +532,8 @@ open-event-unique κs a r s u v p q = (W.open-event-unique _ _ _ _ _ p q, refl)
 pub post-unique : Unique writer.post.ended writer.post.Reads.Learnt
 post-unique κs a r s u v p q = let e = W.post-unique _ _ _ _ _ _ _ _ p q in (e .0, λ i. (tt, (e .1 i, u .1 .1)))
 
-pub close-unique : Unique writer.close.ended writer.close.Reads.Learnt
-close-unique κs a r s u v p q = let e = W.close-unique _ _ _ _ _ _ _ p q in (e .0, λ i. (tt, (tt, (e .1 i, tt))))
+pub close-unique : Unique closing.close.ended closing.close.Reads.Learnt
+close-unique κs a r s u v p q = let e = closed.close-unique _ _ _ _ _ _ _ p q in (e .0, λ i. (tt, (tt, (e .1 i, tt))))
 
 pub finish-unique : Unique writer.finish.ended writer.finish.Reads.Learnt
 finish-unique κs a r s u v p q = let e = W.finish-unique _ _ _ _ _ _ p q in (e .0, λ i. (tt, (e .1 i, tt)))

@@ -22,7 +22,8 @@ use Rattle.state.specs.State.{idle, blank, withBlock, withEvent, withClosed}
 use Rattle.state.specs.StateLaws.{blank-out}
 use Rattle.writer.specs.declared.Answer.{Answer}
 use Rattle.writer.specs.declared.Finished.{Finished}
-use Rattle.writer.specs.Calls.{SetUpSays, OpenBlockSays, OpenEventSays, rowStart, PostSays, CloseSays, FinishSays}
+use Rattle.writer.specs.Calls.{SetUpSays, OpenBlockSays, OpenEventSays, rowStart, PostSays, FinishSays}
+use Rattle.closing.specs.Closing.{CloseSays}
 use Rattle.refusing.specs.Tables.{setUpNumber, openBlockTable, openBlockNumber, openEventTable, openEventNumber, postTable, postNumber, closingItems, closeTable, closeNumber, finishTable, finishNumber}
 use Rattle.refusing.specs.TablesLaws.{post-accepted}
 use Rattle.block.specs.Block.{blockItems, endItems}

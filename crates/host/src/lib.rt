@@ -128,7 +128,7 @@ pub extern "C" fn fadc250_close(state: &mut [u64], store: &[u16], words: &mut [u
     ensures { λ r. ⌜ CloseFace (now (state .entry)) (now (store .entry)) (now (words .entry)) r (now (state .exit)) (now (words .exit)) ⌝ }
 {
     let loaded = state_or_none(state);
-    let answer = writer::close(loaded, store, words);
+    let answer = closing::close(loaded, store, words);
     put_answer(state, answer)
 }
 

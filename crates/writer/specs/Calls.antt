@@ -1,4 +1,4 @@
--- The six calls: what each answers, writes and leaves. Document 01, "One event, one store". Assumes nothing.
+-- The calls but for the close: what each answers, writes and leaves. Document 01, "One event, one store". Assumes nothing.
 use Prim.Native.Nat.{ℕ, _+_, _*_}
 use mathlib.Core.Path.{_≡_}
 use mathlib.Core.Bool.{true, cond}
@@ -52,14 +52,6 @@ pub record PostSays (s : State) (store : List ℕ) (c : ℕ) (w : List ℕ) (r :
   pub refusal : numberOf (r .refusal) ≡ postNumber s (length store) c w
   pub state : r .state ≡ ifAccepted (postNumber s (length store) c w) (withMark s (set (s .posted) c true)) s
   pub rows : store′ ≡ ifAccepted (postNumber s (length store) c w) (splice store (rowStart s c) w) store
-
--- ---- close the event
-
--- "after the words already there; the rest of the buffer stays"
-pub record CloseSays (s : State) (store words : List ℕ) (r : Answer) (words′ : List ℕ) : Type 0 where
-  pub refusal : numberOf (r .refusal) ≡ closeNumber s store (length words)
-  pub state : r .state ≡ ifAccepted (closeNumber s store (length words)) (withClosed s (s .words + length (closingItems s store))) s
-  pub buffer : words′ ≡ ifAccepted (closeNumber s store (length words)) (splice words (s .words) (wordsOf (closingItems s store))) words
 
 -- ---- finish the block
 

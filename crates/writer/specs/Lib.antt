@@ -1,5 +1,4 @@
 pub mod Calls
 pub mod CallsLaws
 pub mod KeptLaws
-pub mod CloseLaws
 pub mod UniqueLaws

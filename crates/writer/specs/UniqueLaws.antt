@@ -10,13 +10,13 @@ use Rattle.refusals.specs.RefusalLaws.{number-inj}
 use Rattle.state.specs.declared.State.{State}
 use Rattle.writer.specs.declared.Answer.{Answer}
 use Rattle.writer.specs.declared.Finished.{Finished}
-use Rattle.writer.specs.Calls.{SetUpSays, OpenBlockSays, OpenEventSays, PostSays, CloseSays, FinishSays}
+use Rattle.writer.specs.Calls.{SetUpSays, OpenBlockSays, OpenEventSays, PostSays, FinishSays}
 
 -- a refusal said by its number, and an answer by its refusal and its state
 pub one-refusal : (a b : Refusal) {number : ℕ} → numberOf a ≡ number → numberOf b ≡ number → a ≡ b
 one-refusal a b p q = number-inj a b (one-result p q)
 
-one-answer : (a b : Answer) {number : ℕ} {state : State} → numberOf (a .refusal) ≡ number → numberOf (b .refusal) ≡ number
+pub one-answer : (a b : Answer) {number : ℕ} {state : State} → numberOf (a .refusal) ≡ number → numberOf (b .refusal) ≡ number
     → a .state ≡ state → b .state ≡ state → a ≡ b
 one-answer a b p q s t =
     let refusal = one-refusal (a .refusal) (b .refusal) p q in
@@ -37,11 +37,6 @@ open-event-unique s number time a b p q = one-answer a b (p .refusal) (q .refusa
 pub post-unique : (s : State) (store : List ℕ) (c : ℕ) (w : List ℕ) (a b : Answer) (x y : List ℕ)
     → PostSays s store c w a x → PostSays s store c w b y → (a ≡ b) × (x ≡ y)
 post-unique s store c w a b x y p q = (one-answer a b (p .refusal) (q .refusal) (p .state) (q .state), one-result (p .rows) (q .rows))
-
-pub close-unique : (s : State) (store words : List ℕ) (a b : Answer) (x y : List ℕ)
-    → CloseSays s store words a x → CloseSays s store words b y → (a ≡ b) × (x ≡ y)
-close-unique s store words a b x y p q =
-    (one-answer a b (p .refusal) (q .refusal) (p .state) (q .state), one-result (p .buffer) (q .buffer))
 
 pub finish-unique : (s : State) (words : List ℕ) (a b : Finished) (x y : List ℕ) → FinishSays s words a x → FinishSays s words b y → (a ≡ b) × (x ≡ y)
 finish-unique s words a b x y p q =

@@ -1,5 +1,5 @@
-// One event, one store: the state of a run and the six calls that change it.
-ghost use Rattle.writer.specs.Calls.{SetUpSays, OpenBlockSays, OpenEventSays, PostSays, CloseSays, FinishSays};
+// One event, one store: the state of a run and the calls that change it, but for `closing::close`.
+ghost use Rattle.writer.specs.Calls.{SetUpSays, OpenBlockSays, OpenEventSays, PostSays, FinishSays};
 
 mod put;
 
@@ -110,42 +110,6 @@ pub fn post(state: State, store: &mut [u16], channel: usize, window: &[u16]) -> 
         };
     }
     Answer { refusal, state }
-}
-
-// Closes the event: writes its words behind those already there. They are written all or not at all, so the place tells whether there was room.
-pub fn close(state: State, store: &[u16], words: &mut [u32]) -> Answer
-    ensures { λ r. ⌜ CloseSays state (now (store .entry)) (now (words .entry)) r (now (words .exit)) ⌝ }
-{
-    let refusal = refusing::close_check(state, store);
-    if !refusals::accepted(refusal) {
-        return Answer { refusal, state };
-    }
-    let settings = state.settings;
-    let posted = state.posted;
-    let at = state.words;
-    let next = event::put_event(words, at, settings, state.event, state.time, &posted, store);
-    if next == at {
-        return Answer {
-            refusal: Refusal::Room,
-            state,
-        };
-    }
-    let unposted = [false; 16];
-    let closed = State {
-        settings,
-        phase: Phase::Block,
-        block: state.block,
-        events: state.events,
-        event: 0,
-        time: 0,
-        posted: unposted,
-        closed: state.closed + 1,
-        words: next,
-    };
-    Answer {
-        refusal,
-        state: closed,
-    }
 }
 
 // Finishes the block: writes the trailer and the fewest fillers, and answers the block's length.

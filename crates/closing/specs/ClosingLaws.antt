@@ -8,6 +8,7 @@ use borrow.Author.Tests.{le-leb}
 use lib.Dec.{leb}
 use lib.ListN.{length}
 use Rattle.ground.specs.Splice.{Written, WrittenIf}
+use Rattle.ground.specs.ResultLaws.{one-result}
 use Rattle.ground.specs.WritingLaws.{written, moved, stayed, unwritten}
 use Rattle.items.specs.Items.{wordsOf}
 use Rattle.items.specs.ItemsLaws.{length-words}
@@ -16,6 +17,9 @@ use Rattle.event.specs.Event.{eventItems}
 use Rattle.rows.specs.Inner.{Lent}
 use Rattle.rows.specs.RowsLaws.{lent-enough}
 use Rattle.state.specs.declared.State.{State}
+use Rattle.writer.specs.declared.Answer.{Answer}
+use Rattle.writer.specs.UniqueLaws.{one-answer}
+use Rattle.closing.specs.Closing.{CloseSays}
 use Rattle.state.specs.StateLaws.{EventSays, event-says, state-settings}
 use Rattle.refusing.specs.Tables.{closingItems, closeNumber, beforeRoom}
 use Rattle.refusing.specs.TablesLaws.{CloseAccepted, close-accepted}
@@ -50,3 +54,9 @@ module _ (s : State) (store : List ℕ) (asked : beforeRoom s store ≡ 0) where
     had-room e =
         let room = moved good w e in
         (close-fits s store (length words) asked (rw (length-words (closingItems s store)) at room), written good room w)
+
+-- two results that the statement allows are equal
+pub close-unique : (s : State) (store words : List ℕ) (a b : Answer) (x y : List ℕ)
+    → CloseSays s store words a x → CloseSays s store words b y → (a ≡ b) × (x ≡ y)
+close-unique s store words a b x y p q =
+    (one-answer a b (p .refusal) (q .refusal) (p .state) (q .state), one-result (p .buffer) (q .buffer))

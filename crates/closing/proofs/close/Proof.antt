@@ -1,4 +1,4 @@
--- `writer::close` meets its contract: what is asked first, then the event's words, all or none. Assumes nothing.
+-- `closing::close` meets its contract: what is asked first, then the event's words, all or none. Assumes nothing.
 use mathlib.Core.Path.{_≡_, sym, ap, _∙_}
 use native.Mathlib.Omega.{arith}
 use borrow.Author.Needs.{needs}
@@ -7,10 +7,10 @@ use lib.ListN.{length}
 use Rattle.state.specs.State.{withClosed}
 use Rattle.refusing.specs.Tables.{closingItems, beforeRoom}
 use Rattle.refusing.specs.RoomLaws.{refused-before}
 use Rattle.writer.specs.CallsLaws.{next-place}
-use Rattle.writer.specs.CloseLaws.{in-event, no-room, had-room}
-use Rattle.writer.proofs.close.Statement.{statement}
-use Rattle.writer.proofs.close.Tie as tie
+use Rattle.closing.specs.ClosingLaws.{in-event, no-room, had-room}
+use Rattle.closing.proofs.close.Statement.{statement}
+use Rattle.closing.proofs.close.Tie as tie
 
 -- where nothing but the room is left to be asked
 module _ (c : tie.After-put-event) where
@@ -40,21 +40,20 @@ returns-2 c =
     let told = no-room (a .state) (a .store .now) (asked p) (marks p) (p .put-event .ensures) (c .if2 .taken) in
     record { refusal = sym (told .0); state = rw (told .0); buffer = rw (told .0) (told .1) }
 
-add-t19 : tie.Need-add-t19
-add-t19 c =
-    let p = c .before .before .before .before in
+event-closed-requires : tie.Need-event-closed-requires
+event-closed-requires c κs =
+    let p = c .before .before .before in
     let e = in-event (start p .args .state) (start p .args .store .now) (asked p) in
     omega (arith, e .closed, e .inside .events .1)
 
 returns-3 : tie.Need-returns-3
-unfolding withClosed
 returns-3 c =
     let p = c .before .before .before .before in
     let a = start p .args in
     let told = had-room (a .state) (a .store .now) (asked p) (marks p) (p .put-event .ensures) (c .before .if2 .left) in
     record {
       refusal = p .before .before .before .before .before .before .before .close-check .ensures ∙ asked p ∙ sym (told .0);
-      state = rw (told .0) (ap (withClosed (a .state)) (next-place (closingItems (a .state) (a .store .now)) (told .1)));
+      state = rw (told .0) (c .event-closed .ensures ∙ ap (withClosed (a .state)) (next-place (closingItems (a .state) (a .store .now)) (told .1)));
       buffer = rw (told .0) (told .1 .words);
     }
 
@@ -69,6 +68,6 @@ close-spec =
     (λ c κs. search needs)
     (λ c. search needs)
     returns-2
-    add-t19
+    event-closed-requires
     (λ c. search needs)
     returns-3)
