@@ -10,7 +10,8 @@ use Rattle.refusals.specs.Refusal.{numberOf, badArray}
 use Rattle.refusals.specs.declared.Refusal.the-variants as R
 use Rattle.finder.specs.declared.Pulse.{Pulse}
 use Rattle.finder.specs.declared.Pulses.{Pulses}
-use Rattle.finder.specs.Find.{noPulse, packed, ruleNumber}
+use Rattle.timing.specs.Time.{ruleNumber}
+use Rattle.finder.specs.Find.{noPulse, packed}
 use Rattle.find.specs.Call.{findNumber, foundPulses}
 use Rattle.state.specs.declared.State.{State}
 use Rattle.state.specs.State.{idle, withBlock, withEvent, withMark, withClosed}

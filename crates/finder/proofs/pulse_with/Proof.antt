@@ -1,16 +1,14 @@
 -- `finder::pulse_with` meets its contract: a TC that it may be lent is tested. Assumes nothing.
 use mathlib.Core.Path.{_≡_, sym, ap₂, _∙_}
 use mathlib.Core.Bool.{Bool, true, _&&_}
-use native.Mathlib.Omega.{arith}
 use borrow.Author.Needs.{needs}
 use borrow.Author.Tests.{not-true, not-false}
 use lib.ListN.{length}
 use denote.Ref.{now}
 use Rattle.ground.specs.TestsLaws.{and-left, and-right}
-use Rattle.search.specs.Asked.{IsOver}
 use Rattle.finder.specs.Find.{searchable}
 use Rattle.finder.specs.Wanted.{isTc}
-use Rattle.finder.specs.FindLaws.{Searched, searched, is-tc, from-is}
+use Rattle.finder.specs.FindLaws.{searched, is-tc}
 use Rattle.finder.proofs.pulse_with.Statement.{statement}
 use Rattle.finder.proofs.pulse_with.Tie as tie
 
@@ -27,27 +25,14 @@ module _ (c : tie.Else1) where
   asked : (searchable (length (now (start .args .window))) (start .args .nsa) 0 && isTc (now (start .args .window)) (start .args .threshold) (start .args .tc)) ≡ true
   asked = sym (ap₂ (λ (x y : Bool). x && y) (c .before .before .can-search .ensures) (c .before .is-tc .ensures)) ∙ not-false _ (c .if1 .left)
 
-  can : Searched (length (now (start .args .window))) (start .args .nsa) 0
-  can = searched _ _ _ (and-left _ _ asked)
-
-  over : IsOver (now (start .args .window)) (start .args .threshold) (start .args .tc)
-  over = is-tc _ _ _ (and-right (searchable (length (now (start .args .window))) (start .args .nsa) 0) _ asked)
-
-set-last-requires : tie.Need-set-last-requires
-set-last-requires c κs =
-    let e = c .before in
-    (over e .from, omega (arith, over e .to, can e .short), can e .within)
-
-sum-if-requires : tie.Need-sum-if-requires
-sum-if-requires c κs = let e = c .before .before in omega (arith, can e .short, c .before .set-first .ensures, c .set-last .ensures)
-
-time-if-requires : tie.Need-time-if-requires
-time-if-requires c κs = let e = c .before .before .before in (over e .from, over e .to)
+pulse-from-requires : tie.Need-pulse-from-requires
+pulse-from-requires c κs =
+    let can = searched _ _ _ (and-left _ _ (asked c)) in
+    let over = is-tc _ _ _ (and-right (searchable (length (now (start c .args .window))) (start c .args .nsa) 0) _ (asked c)) in
+    (over .from, over .to, can .short, can .within)
 
 returns-2 : tie.Need-returns-2
-returns-2 c =
-    rw (asked (c .before .before .before .before))
-    (from-is _ _ _ _ _ _ _ _ _ _ _ (c .before .before .before .set-first .ensures) (c .before .before .set-last .ensures) (c .before .sum-if .ensures) (c .time-if .ensures))
+returns-2 c = rw (asked (c .before)) (c .pulse-from .ensures)
 
 pub pulse-with-spec : {M : Type 1} → statement M
 pulse-with-spec =
@@ -57,8 +42,5 @@ pulse-with-spec =
     (λ c κs. search needs)
     (λ c κs. search needs)
     returns
-    (λ c κs. search needs)
-    set-last-requires
-    sum-if-requires
-    time-if-requires
+    pulse-from-requires
     returns-2)
