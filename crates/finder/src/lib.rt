@@ -13,12 +13,13 @@ ghost use Rattle.limits.specs.Limits.{mostSamples};
 ghost use Rattle.settings.specs.Ranges.{mostNsa, mostLimit};
 ghost use Rattle.samples.specs.Sample.{mostAmp};
 ghost use Rattle.search.specs.Search.{ampAt};
+ghost use Rattle.search.specs.Asked.{IsOver};
 ghost use Rattle.timing.specs.declared.Rule.the-variants.{Early};
 ghost use Rattle.timing.specs.Integral.{integral};
 ghost use Rattle.timing.specs.Time.{tcOnly};
 ghost use Rattle.timing.specs.ByBase.{timeFrom};
-ghost use Rattle.finder.specs.Find.{setFirst, setLast, pulsesFrom, noPulse, packed, searchable, findAll};
-ghost use Rattle.finder.specs.Wanted.{pulseFrom, isTc};
+ghost use Rattle.finder.specs.Find.{setFirst, setLast, pulseAt, pulsesFrom, noPulse, packed, searchable, findAll};
+ghost use Rattle.finder.specs.Wanted.{timedPulse, pulseFrom, isTc};
 
 // A pulse: its TC, the first and the last sample of its data set, the sum over the set before any cap, its time.
 pub struct Pulse {
@@ -95,23 +96,15 @@ fn time_if(on: bool, window: &[u16], base: Base, tc: usize) -> Time
     }
 }
 
-// The pulse at tc, with no more of it than is asked: its sum, its high-resolution time by a base.
-fn pulse_from(
-    window: &[u16],
-    nsb: usize,
-    nsa: usize,
-    tc: usize,
-    sums: bool,
-    times: bool,
-    base: Base,
-) -> Pulse
+// The pulse at tc with the time that it has, and its sum where it is asked. The time is a parameter: one that was found in here
+// would make this too large to be compiled in the place of both its callers.
+fn timed_pulse(window: &[u16], nsb: usize, nsa: usize, tc: usize, sums: bool, time: Time) -> Pulse
     requires { ⌜ (1 ≤ tc) × (tc ≤ length (now window)) × (length (now window) ≤ mostSamples) × (nsa ≤ mostNsa) ⌝ }
-    ensures { λ r. ⌜ r ≡ pulseFrom sums times (now (window .entry)) base nsb nsa tc ⌝ }
+    ensures { λ r. ⌜ r ≡ timedPulse sums (now (window .entry)) nsb nsa tc time ⌝ }
 {
     let first = set_first(tc, nsb);
     let last = set_last(tc, nsa, window.len());
     let sum = sum_if(sums, window, first, last);
-    let time = time_if(times, window, base, tc);
     Pulse {
         tc,
         first,
@@ -119,6 +112,17 @@ fn pulse_from(
         sum,
         time,
     }
+}
+
+// The pulse at tc, all of it, by the window's own base.
+fn pulse_at(window: &[u16], threshold: u32, nsb: usize, nsa: usize, tc: usize) -> Pulse
+    requires { ⌜ IsOver (now window) threshold tc ⌝ }
+    requires { ⌜ (length (now window) ≤ mostSamples) × (nsa ≤ mostNsa) ⌝ }
+    ensures { λ r. ⌜ r ≡ pulseAt (now (window .entry)) threshold nsb nsa tc ⌝ }
+{
+    let base = timing::base_of(window, threshold);
+    let time = timing::time_from(window, base, tc);
+    timed_pulse(window, nsb, nsa, tc, true, time)
 }
 
 // What stands where there is no pulse.
@@ -159,8 +163,7 @@ fn all_pulses(window: &[u16], threshold: u32, nsb: usize, nsa: usize, limit: usi
         if tc == 0 {
             return Pulses { count, pulses };
         }
-        let base = timing::base_of(window, threshold);
-        pulses[count] = pulse_from(window, nsb, nsa, tc, true, true, base);
+        pulses[count] = pulse_at(window, threshold, nsb, nsa, tc);
         count += 1;
         s = tc + nsa;
     }
@@ -198,7 +201,7 @@ fn is_tc(window: &[u16], threshold: u32, tc: usize) -> bool
     samples::over(threshold, window[tc - 1])
 }
 
-// One pulse alone, for a caller that found its TC and the base of its window.
+// One pulse alone, for a caller that found its TC and the base of its window, with no more of it than is asked: its sum, its high-resolution time.
 pub fn pulse_with(
     window: &[u16],
     threshold: u32,
@@ -214,5 +217,6 @@ pub fn pulse_with(
     if !(can_search(window.len(), nsa, 0) & is_tc(window, threshold, tc)) {
         return no_pulse();
     }
-    pulse_from(window, nsb, nsa, tc, sums, times, base)
+    let time = time_if(times, window, base, tc);
+    timed_pulse(window, nsb, nsa, tc, sums, time)
 }

@@ -6,9 +6,10 @@ use borrow.Author.Tests.{not-true, not-false}
 use lib.ListN.{length}
 use denote.Ref.{now}
 use Rattle.ground.specs.TestsLaws.{and-left, and-right}
+use Rattle.search.specs.Asked.{IsOver}
 use Rattle.finder.specs.Find.{searchable}
 use Rattle.finder.specs.Wanted.{isTc}
-use Rattle.finder.specs.FindLaws.{searched, is-tc}
+use Rattle.finder.specs.FindLaws.{Searched, searched, is-tc, from-is}
 use Rattle.finder.proofs.pulse_with.Statement.{statement}
 use Rattle.finder.proofs.pulse_with.Tie as tie
 
@@ -25,14 +26,20 @@ module _ (c : tie.Else1) where
   asked : (searchable (length (now (start .args .window))) (start .args .nsa) 0 && isTc (now (start .args .window)) (start .args .threshold) (start .args .tc)) ≡ true
   asked = sym (ap₂ (λ (x y : Bool). x && y) (c .before .before .can-search .ensures) (c .before .is-tc .ensures)) ∙ not-false _ (c .if1 .left)
 
-pulse-from-requires : tie.Need-pulse-from-requires
-pulse-from-requires c κs =
-    let can = searched _ _ _ (and-left _ _ (asked c)) in
-    let over = is-tc _ _ _ (and-right (searchable (length (now (start c .args .window))) (start c .args .nsa) 0) _ (asked c)) in
-    (over .from, over .to, can .short, can .within)
+  can : Searched (length (now (start .args .window))) (start .args .nsa) 0
+  can = searched _ _ _ (and-left _ _ asked)
+
+  over : IsOver (now (start .args .window)) (start .args .threshold) (start .args .tc)
+  over = is-tc _ _ _ (and-right (searchable (length (now (start .args .window))) (start .args .nsa) 0) _ asked)
+
+time-if-requires : tie.Need-time-if-requires
+time-if-requires c κs = (over c .from, over c .to)
+
+timed-pulse-requires : tie.Need-timed-pulse-requires
+timed-pulse-requires c κs = let e = c .before in (over e .from, over e .to, can e .short, can e .within)
 
 returns-2 : tie.Need-returns-2
-returns-2 c = rw (asked (c .before)) (c .pulse-from .ensures)
+returns-2 c = rw (asked (c .before .before)) (c .timed-pulse .ensures ∙ from-is _ _ _ _ _ _ _ _ (c .before .time-if .ensures))
 
 pub pulse-with-spec : {M : Type 1} → statement M
 pulse-with-spec =
@@ -42,5 +49,6 @@ pulse-with-spec =
     (λ c κs. search needs)
     (λ c κs. search needs)
     returns
-    pulse-from-requires
+    time-if-requires
+    timed-pulse-requires
     returns-2)
