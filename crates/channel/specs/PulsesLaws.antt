@@ -17,7 +17,7 @@ use Rattle.timing.specs.ByBase.{baseOf, timeFrom}
 use Rattle.timing.specs.EdgeLaws.{base-time}
 use Rattle.finder.specs.declared.Pulse.{Pulse}
 use Rattle.finder.specs.Find.{pulseAt, pulsesFrom, noPulse, searchable}
-use Rattle.finder.specs.Wanted.{timedPulse, pulseFrom, isTc}
+use Rattle.finder.specs.Wanted.{coarsePulse, pulseFrom, isTc}
 use Rattle.finder.specs.FindLaws.{Searched, can-search, tc-is}
 use Rattle.finder.specs.RangeLaws.{from-fits, from-own}
 use Rattle.items.specs.declared.Item.{Item}
@@ -39,21 +39,21 @@ module _ (m : Parts) (c : ℕ) (w : List ℕ) (t nsb nsa tc i : ℕ) (own : time
   whole = pulseAt w t nsb nsa tc
 
   raw-same : (sums times : Bool) → rawItems c w i (with sums times) ≡ rawItems c w i whole
-  unfolding with whole rawItems setOf timedPulse pulseFrom pulseAt
+  unfolding with whole rawItems setOf coarsePulse pulseFrom pulseAt
   raw-same sums times = refl
 
   integral-same : (on times : Bool) → itemIf on (integralItem c i (with on times)) ≡ itemIf on (integralItem c i whole)
-  unfolding with whole integralItem timedPulse pulseFrom pulseAt
+  unfolding with whole integralItem coarsePulse pulseFrom pulseAt
   integral-same true times = refl
   integral-same false times = refl
 
   time-same : (on high pedestal sums : Bool) → itemIf on (timeItem high c i (with sums (high || pedestal))) ≡ itemIf on (timeItem high c i whole)
-  unfolding with whole timeItem timedPulse pulseFrom pulseAt
+  unfolding with whole timeItem coarsePulse pulseFrom pulseAt
   time-same on true pedestal sums = rw own
   time-same on false pedestal sums = refl
 
   pedestal-same : (on high sums : Bool) → itemIf on (pedestalItem c i (with sums (high || on))) ≡ itemIf on (pedestalItem c i whole)
-  unfolding with whole pedestalItem timedPulse pulseFrom pulseAt
+  unfolding with whole pedestalItem coarsePulse pulseFrom pulseAt
   pedestal-same true true sums = rw own
   pedestal-same true false sums = rw own
   pedestal-same false high sums = refl

@@ -9,23 +9,24 @@ use Rattle.ground.specs.Tests.{allOf}
 use Rattle.search.specs.Search.{over}
 use Rattle.timing.specs.declared.Rule.the-variants.{Early}
 use Rattle.timing.specs.declared.Base.{Base}
-use Rattle.timing.specs.declared.Time.{Time}
 use Rattle.timing.specs.Integral.{integral}
 use Rattle.timing.specs.Time.{tcOnly}
 use Rattle.timing.specs.ByBase.{timeFrom}
 use Rattle.finder.specs.declared.Pulse.{Pulse}
 use Rattle.finder.specs.Find.{setFirst, setLast}
 
--- the pulse at TC with a time: its sum where it is wanted, else 0
-unfoldable pub timedPulse : Bool → List ℕ → ℕ → ℕ → ℕ → Time → Pulse
-timedPulse sums w nsb nsa tc time =
+-- the pulse at TC: its sum where it is wanted, else 0; its time TC alone
+unfoldable pub coarsePulse : Bool → List ℕ → ℕ → ℕ → ℕ → Pulse
+coarsePulse sums w nsb nsa tc =
     let first : ℕ = setFirst tc nsb in
     let last : ℕ = setLast tc nsa (length w) in
-    record { tc = tc; first = first; last = last; sum = cond sums (integral w first last) 0; time = time }
+    record { tc = tc; first = first; last = last; sum = cond sums (integral w first last) 0; time = tcOnly tc 0 Early }
 
--- its time by the base where it is wanted, else TC alone
+-- its time by the base where it is wanted
 unfoldable pub pulseFrom : Bool → Bool → List ℕ → Base → ℕ → ℕ → ℕ → Pulse
-pulseFrom sums times w b nsb nsa tc = timedPulse sums w nsb nsa tc (cond times (timeFrom w b tc) (tcOnly tc 0 Early))
+pulseFrom sums times w b nsb nsa tc =
+    let p : Pulse = coarsePulse sums w nsb nsa tc in
+    record { tc = p .tc; first = p .first; last = p .last; sum = p .sum; time = cond times (timeFrom w b tc) (p .time) }
 
 -- sample k is one of the window, and over
 unfoldable pub isTc : List ℕ → ℕ → ℕ → Bool

@@ -19,7 +19,7 @@ ghost use Rattle.timing.specs.Integral.{integral};
 ghost use Rattle.timing.specs.Time.{tcOnly};
 ghost use Rattle.timing.specs.ByBase.{timeFrom};
 ghost use Rattle.finder.specs.Find.{setFirst, setLast, pulseAt, pulsesFrom, noPulse, packed, searchable, findAll};
-ghost use Rattle.finder.specs.Wanted.{timedPulse, pulseFrom, isTc};
+ghost use Rattle.finder.specs.Wanted.{coarsePulse, pulseFrom, isTc};
 
 // A pulse: its TC, the first and the last sample of its data set, the sum over the set before any cap, its time.
 pub struct Pulse {
@@ -96,15 +96,16 @@ fn time_if(on: bool, window: &[u16], base: Base, tc: usize) -> Time
     }
 }
 
-// The pulse at tc with the time that it has, and its sum where it is asked. The time is a parameter: one that was found in here
-// would make this too large to be compiled in the place of both its callers.
-fn timed_pulse(window: &[u16], nsb: usize, nsa: usize, tc: usize, sums: bool, time: Time) -> Pulse
+// The pulse at tc, its sum where it is asked, its time only TC. A high-resolution time is put in by the callers: found in here it
+// would make this too large to be compiled in the place of both.
+fn coarse_pulse(window: &[u16], nsb: usize, nsa: usize, tc: usize, sums: bool) -> Pulse
     requires { ⌜ (1 ≤ tc) × (tc ≤ length (now window)) × (length (now window) ≤ mostSamples) × (nsa ≤ mostNsa) ⌝ }
-    ensures { λ r. ⌜ r ≡ timedPulse sums (now (window .entry)) nsb nsa tc time ⌝ }
+    ensures { λ r. ⌜ r ≡ coarsePulse sums (now (window .entry)) nsb nsa tc ⌝ }
 {
     let first = set_first(tc, nsb);
     let last = set_last(tc, nsa, window.len());
     let sum = sum_if(sums, window, first, last);
+    let time = timing::tc_only(tc, 0, Rule::Early);
     Pulse {
         tc,
         first,
@@ -120,9 +121,10 @@ fn pulse_at(window: &[u16], threshold: u32, nsb: usize, nsa: usize, tc: usize) -
     requires { ⌜ (length (now window) ≤ mostSamples) × (nsa ≤ mostNsa) ⌝ }
     ensures { λ r. ⌜ r ≡ pulseAt (now (window .entry)) threshold nsb nsa tc ⌝ }
 {
+    let mut pulse = coarse_pulse(window, nsb, nsa, tc, true);
     let base = timing::base_of(window, threshold);
-    let time = timing::time_from(window, base, tc);
-    timed_pulse(window, nsb, nsa, tc, true, time)
+    pulse.time = timing::time_from(window, base, tc);
+    pulse
 }
 
 // What stands where there is no pulse.
@@ -217,6 +219,7 @@ pub fn pulse_with(
     if !(can_search(window.len(), nsa, 0) & is_tc(window, threshold, tc)) {
         return no_pulse();
     }
-    let time = time_if(times, window, base, tc);
-    timed_pulse(window, nsb, nsa, tc, sums, time)
+    let mut pulse = coarse_pulse(window, nsb, nsa, tc, sums);
+    pulse.time = time_if(times, window, base, tc);
+    pulse
 }

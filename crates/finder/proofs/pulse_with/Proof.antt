@@ -32,14 +32,14 @@ module _ (c : tie.Else1) where
   over : IsOver (now (start .args .window)) (start .args .threshold) (start .args .tc)
   over = is-tc _ _ _ (and-right (searchable (length (now (start .args .window))) (start .args .nsa) 0) _ asked)
 
-time-if-requires : tie.Need-time-if-requires
-time-if-requires c κs = (over c .from, over c .to)
+coarse-pulse-requires : tie.Need-coarse-pulse-requires
+coarse-pulse-requires c κs = (over c .from, over c .to, can c .short, can c .within)
 
-timed-pulse-requires : tie.Need-timed-pulse-requires
-timed-pulse-requires c κs = let e = c .before in (over e .from, over e .to, can e .short, can e .within)
+time-if-requires : tie.Need-time-if-requires
+time-if-requires c κs = (over (c .before) .from, over (c .before) .to)
 
 returns-2 : tie.Need-returns-2
-returns-2 c = rw (asked (c .before .before)) (c .timed-pulse .ensures ∙ from-is _ _ _ _ _ _ _ _ (c .before .time-if .ensures))
+returns-2 c = rw (asked (c .before .before)) (from-is _ _ _ _ _ _ _ _ _ (c .before .coarse-pulse .ensures) (c .time-if .ensures))
 
 pub pulse-with-spec : {M : Type 1} → statement M
 pulse-with-spec =
@@ -49,6 +49,6 @@ pulse-with-spec =
     (λ c κs. search needs)
     (λ c κs. search needs)
     returns
+    coarse-pulse-requires
     time-if-requires
-    timed-pulse-requires
     returns-2)
