@@ -4,7 +4,7 @@ use mathlib.Core.Bool.{Bool, true, cond, _&&_, _||_}
 use mathlib.Core.List.{List, [], _∷_}
 use lib.ListN.{length, take}
 use Rattle.limits.specs.Limits.{pairsOf}
-use Rattle.finder.specs.declared.Base.{Base}
+use Rattle.timing.specs.declared.Base.{Base}
 use Rattle.finder.specs.declared.Pulse.{Pulse}
 use Rattle.finder.specs.declared.Pulses.{Pulses}
 use Rattle.search.specs.Search.{anyOver}

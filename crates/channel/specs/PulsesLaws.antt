@@ -11,12 +11,15 @@ use Rattle.ground.specs.WritingLaws.{Left}
 use Rattle.search.specs.Search.{tcFrom}
 use Rattle.search.specs.Asked.{IsOver}
 use Rattle.search.specs.SearchLaws.{tc-over}
-use Rattle.finder.specs.declared.Base.{Base}
+use Rattle.timing.specs.declared.Base.{Base}
+use Rattle.timing.specs.Time.{timeAt}
+use Rattle.timing.specs.ByBase.{baseOf, timeFrom}
+use Rattle.timing.specs.EdgeLaws.{base-time}
 use Rattle.finder.specs.declared.Pulse.{Pulse}
 use Rattle.finder.specs.Find.{pulseAt, pulsesFrom, noPulse, searchable}
-use Rattle.finder.specs.Wanted.{baseOf, pulseWith, pulseFrom, isTc}
+use Rattle.finder.specs.Wanted.{coarsePulse, pulseFrom, isTc}
 use Rattle.finder.specs.FindLaws.{Searched, can-search, tc-is}
-use Rattle.finder.specs.RangeLaws.{with-fits, from-with}
+use Rattle.finder.specs.RangeLaws.{from-fits, from-own}
 use Rattle.items.specs.declared.Item.{Item}
 use Rattle.items.specs.Items.{wordsOf, itemIf}
 use Rattle.items.specs.ItemsLaws.{put-written, loop-room, loop-less, loop-none}
@@ -28,34 +31,34 @@ use Rattle.channel.specs.Inner.{noBase}
 
 -- ---- what the mode writes of a pulse is what it writes of all that can be asked of it
 
-module _ (m : Parts) (c : ℕ) (w : List ℕ) (t nsb nsa tc i : ℕ) where
+module _ (m : Parts) (c : ℕ) (w : List ℕ) (t nsb nsa tc i : ℕ) (own : timeFrom w (baseOf w t) tc ≡ timeAt w t tc) where
   with : Bool → Bool → Pulse
-  with sums times = pulseWith sums times w t nsb nsa tc
+  with sums times = pulseFrom sums times w (baseOf w t) nsb nsa tc
 
   whole : Pulse
   whole = pulseAt w t nsb nsa tc
 
   raw-same : (sums times : Bool) → rawItems c w i (with sums times) ≡ rawItems c w i whole
-  unfolding with whole rawItems setOf pulseWith pulseAt
+  unfolding with whole rawItems setOf coarsePulse pulseFrom pulseAt
   raw-same sums times = refl
 
   integral-same : (on times : Bool) → itemIf on (integralItem c i (with on times)) ≡ itemIf on (integralItem c i whole)
-  unfolding with whole integralItem pulseWith pulseAt
+  unfolding with whole integralItem coarsePulse pulseFrom pulseAt
   integral-same true times = refl
   integral-same false times = refl
 
   time-same : (on high pedestal sums : Bool) → itemIf on (timeItem high c i (with sums (high || pedestal))) ≡ itemIf on (timeItem high c i whole)
-  unfolding with whole timeItem pulseWith pulseAt
-  time-same on true pedestal sums = refl
+  unfolding with whole timeItem coarsePulse pulseFrom pulseAt
+  time-same on true pedestal sums = rw own
   time-same on false pedestal sums = refl
 
   pedestal-same : (on high sums : Bool) → itemIf on (pedestalItem c i (with sums (high || on))) ≡ itemIf on (pedestalItem c i whole)
-  unfolding with whole pedestalItem pulseWith pulseAt
-  pedestal-same true true sums = refl
-  pedestal-same true false sums = refl
+  unfolding with whole pedestalItem coarsePulse pulseFrom pulseAt
+  pedestal-same true true sums = rw own
+  pedestal-same true false sums = rw own
   pedestal-same false high sums = refl
 
-  pub same-items : pulseItems m c w i (pulseWith (m .integral) (m .high || m .pedestal) w t nsb nsa tc) ≡ pulseItems m c w i (pulseAt w t nsb nsa tc)
+  pub same-items : pulseItems m c w i (pulseFrom (m .integral) (m .high || m .pedestal) w (baseOf w t) nsb nsa tc) ≡ pulseItems m c w i (pulseAt w t nsb nsa tc)
   unfolding with whole pulseItems
   same-items =
       ap₂ (λ (x y : List Item). x ++ y) (ap (λ (x : List Item). cond (m .raw) x []) (raw-same (m .integral) (m .high || m .pedestal)))
@@ -106,10 +109,10 @@ module _ (buf₀ : List ℕ) (at : ℕ) (m : Parts) (c : ℕ) (w : List ℕ) (t 
       pulse-less b hb p hp k′ buf′ wr l =
           let can : searchable (length w) nsa 0 ≡ true = can-search _ _ _ (record { short = r .short; some = r .some; within = r .within; few = omega arith }) in
           let of : p ≡ pulseFrom (m .integral) (m .high || m .pedestal) w b nsb nsa tc = rw (can, tc-is w t tc over) at hp in
-          let is : p ≡ pulseWith (m .integral) (m .high || m .pedestal) w t nsb nsa tc = of ∙ from-with (m .integral) (m .high || m .pedestal) w t nsb nsa tc b noBase over hb in
-          let same : pulseItems m c w i p ≡ pulseItems m c w i (pulseAt w t nsb nsa tc) = ap (pulseItems m c w i) is ∙ same-items m c w t nsb nsa tc i in
+          let is : p ≡ pulseFrom (m .integral) (m .high || m .pedestal) w (baseOf w t) nsb nsa tc = of ∙ from-own (m .integral) (m .high || m .pedestal) w t nsb nsa tc b noBase hb in
+          let same : pulseItems m c w i p ≡ pulseItems m c w i (pulseAt w t nsb nsa tc) = ap (pulseItems m c w i) is ∙ same-items m c w t nsb nsa tc i (base-time w t tc over) in
           let l′ = rw turn at l in
           let room = loop-room buf₀ at (pulsesItems m c w 0 (pulsesFrom w t nsb nsa limit 0)) fits buf k (pulseItems m c w i (pulseAt w t nsb nsa tc)) _ l′ in
-          let good : fitsIn (length w) p ≡ true = rw is (fits-in (length w) _ (with-fits _ _ w t nsb nsa tc over (r .some)) (r .short)) in
+          let good : fitsIn (length w) p ≡ true = rw is (fits-in (length w) _ (from-fits _ _ w t nsb nsa tc over (r .some)) (r .short)) in
           loop-less buf₀ at (pulsesItems m c w 0 (pulsesFrom w t nsb nsa limit 0)) fits buf k (pulseItems m c w i (pulseAt w t nsb nsa tc)) _ k′ buf′ l′
           (rw same at (put-written (pulseItems m c w i p) good (rw same room) wr))

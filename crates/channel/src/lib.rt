@@ -1,12 +1,12 @@
 // The words of one channel, put into a lent buffer.
 mod count;
 
-use finder::Base;
 use items::Item;
 use items::put::room_short;
 use pulse::Parts;
 use raw::window::WindowRaw;
 use settings::Settings;
+use timing::Base;
 ghost use mathlib.Core.Path.{_≡_};
 ghost use mathlib.Core.Bool.{true, cond};
 ghost use mathlib.Core.List.{[]};
@@ -16,8 +16,8 @@ ghost use lib.ListN.{length};
 ghost use Rattle.ground.specs.Splice.{Written, WrittenIf};
 ghost use Rattle.limits.specs.Limits.{mostSamples};
 ghost use Rattle.search.specs.Search.{tcFrom};
+ghost use Rattle.timing.specs.ByBase.{baseOf};
 ghost use Rattle.finder.specs.Find.{pulsesFrom, searchable};
-ghost use Rattle.finder.specs.Wanted.{baseOf};
 ghost use Rattle.items.specs.Items.{wordsOf};
 ghost use Rattle.channel.specs.Channel.{windowItems, partsOf, pulsesItems, commonOf, channelItems, channelWords, modeMost};
 ghost use Rattle.channel.specs.Inner.{noBase, limitFor, channelLength};
@@ -67,7 +67,7 @@ fn base_if(on: bool, row: &[u16], threshold: u32) -> Base
     ensures { λ r. ⌜ r ≡ cond on (baseOf (now (row .entry)) threshold) noBase ⌝ }
 {
     if on {
-        finder::base_of(row, threshold)
+        timing::base_of(row, threshold)
     } else {
         Base {
             early: true,

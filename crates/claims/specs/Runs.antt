@@ -8,7 +8,7 @@ use lib.Dec.{eqb}
 use lib.ListN.{length, getD, set, replicate}
 use Rattle.settings.specs.declared.Settings.{Settings}
 use Rattle.finder.specs.declared.Pulse.{Pulse}
-use Rattle.finder.specs.Find as F
+use Rattle.timing.specs.Time as T
 use Rattle.find.specs.Call.{findNumber, foundPulses}
 use Rattle.items.specs.declared.Item.{Item}
 use Rattle.items.specs.declared.Item.the-variants as I
@@ -183,10 +183,10 @@ rows =
 -- a pulse that the finder found in a window, as the bench gives it
 unfoldable pub asBench : List ℕ → Pulse → BenchPulse
 asBench w p =
-    let edge : Bool = eqb (F.ruleNumber (p .time .rule)) 4 in
-    let mid : ℕ = F.vmid (p .time .vpeak) (p .time .vmin) in
-    pulse (p .tc) (p .first) (p .last) (p .sum) (p .time .vmin) (p .time .vpeak) (cond edge mid 0) (cond edge (F.n1 w mid (F.firstFall w (p .tc) - 1)) 0) (p .time .coarse) (p .time .fine)
-    (F.ruleNumber (p .time .rule))
+    let edge : Bool = eqb (T.ruleNumber (p .time .rule)) 4 in
+    let mid : ℕ = T.vmid (p .time .vpeak) (p .time .vmin) in
+    pulse (p .tc) (p .first) (p .last) (p .sum) (p .time .vmin) (p .time .vpeak) (cond edge mid 0) (cond edge (T.n1 w mid (T.firstFall w (p .tc) - 1)) 0) (p .time .coarse) (p .time .fine)
+    (T.ruleNumber (p .time .rule))
 
 -- the six calls, each from the state and the buffers that the one before left; the store and the word buffer are as long as they must be, all zero
 pub record CallsOf (r : BenchRun) (k : BenchBlock) (a b c d e : Answer) (f : Finished) (store words words′ words″ : List ℕ) : Type 0 where
@@ -229,5 +229,5 @@ pub record Holds (r : BenchRun) : Type 0 where
 
 -- a proof that computes opens this file and what it leans on by one name
 unfoldable pub allOpen : Unit {0}
-unfolding settingsOf rows asBench Rattle.finder.specs.Find.allOpen Rattle.find.specs.Call.allOpen Rattle.reader.specs.Reader.allOpen Rattle.scan.specs.After.allOpen Rattle.channel.specs.Channel.allOpen Rattle.event.specs.Event.allOpen Rattle.writer.specs.Calls.allOpen Rattle.block.specs.Block.allOpen Rattle.bytecheck.specs.Check.allOpen Rattle.listing.specs.Listing.allOpen Rattle.claims.specs.Bytes.allOpen Rattle.claims.specs.Reads.allOpen
+unfolding settingsOf rows asBench Rattle.timing.specs.Time.allOpen Rattle.find.specs.Call.allOpen Rattle.reader.specs.Reader.allOpen Rattle.scan.specs.After.allOpen Rattle.channel.specs.Channel.allOpen Rattle.event.specs.Event.allOpen Rattle.writer.specs.Calls.allOpen Rattle.block.specs.Block.allOpen Rattle.bytecheck.specs.Check.allOpen Rattle.listing.specs.Listing.allOpen Rattle.claims.specs.Bytes.allOpen Rattle.claims.specs.Reads.allOpen
 allOpen = tt

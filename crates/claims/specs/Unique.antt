@@ -32,6 +32,7 @@ use Rattle.refusals.proofs as refusals
 use Rattle.samples.proofs as samples
 use Rattle.settings.proofs as settings
 use Rattle.search.proofs as search
+use Rattle.timing.proofs as timing
 use Rattle.finder.proofs as finder
 use Rattle.find.proofs as find
 use Rattle.find.specs.CallLaws as F
@@ -383,10 +384,20 @@ tc-from-unique κs a r s u v p q = by-equation p q
 pub is-early-unique : Unique search.is_early.ended search.is_early.Reads.Learnt
 is-early-unique κs a r s u v p q = by-equation p q
 
--- finder
-pub rule-number-unique : Unique finder.rule_number.ended finder.rule_number.Reads.Learnt
+-- timing
+pub rule-number-unique : Unique timing.rule_number.ended timing.rule_number.Reads.Learnt
 rule-number-unique κs a r s u v p q = by-equation p q
 
+pub base-of-unique : Unique timing.base_of.ended timing.base_of.Reads.Learnt
+base-of-unique κs a r s u v p q = by-equation p q
+
+pub tc-only-unique : Unique timing.tc_only.ended timing.tc_only.Reads.Learnt
+tc-only-unique κs a r s u v p q = by-equation p q
+
+pub time-from-unique : Unique timing.time_from.ended timing.time_from.Reads.Learnt
+time-from-unique κs a r s u v p q = by-equation p q
+
+-- finder
 pub no-pulses-unique : Unique finder.no_pulses.ended finder.no_pulses.Reads.Learnt
 no-pulses-unique κs a r s u v p q = by-equation p q
 
@@ -395,9 +406,6 @@ can-search-unique κs a r s u v p q = by-equation p q
 
 pub pulses-of-unique : Unique finder.pulses_of.ended finder.pulses_of.Reads.Learnt
 pulses-of-unique κs a r s u v p q = by-equation p q
-
-pub base-of-unique : Unique finder.base_of.ended finder.base_of.Reads.Learnt
-base-of-unique κs a r s u v p q = by-equation p q
 
 pub pulse-with-unique : Unique finder.pulse_with.ended finder.pulse_with.Reads.Learnt
 pulse-with-unique κs a r s u v p q = by-equation p q

@@ -11,10 +11,11 @@ use Rattle.ground.specs.Tests.{firstOf}
 use Rattle.settings.specs.declared.Settings.{Settings}
 use Rattle.refusals.specs.Refusal.{numberOf}
 use Rattle.search.specs.Search.{tcFrom, early}
-use Rattle.finder.specs.declared.Rule.the-variants.{Early, Late, Flat}
+use Rattle.timing.specs.declared.Rule.the-variants.{Early, Late, Flat}
+use Rattle.timing.specs.Time.{vmin, firstFall, tcOnly, edgeTime, afterFall, timeAt, ruleNumber}
 use Rattle.finder.specs.declared.Pulse.{Pulse}
 use Rattle.find.specs.declared.FindAnswer.{FindAnswer}
-use Rattle.finder.specs.Find.{vmin, firstFall, tcOnly, edgeTime, afterFall, timeAt, ruleNumber, pulseAt, pulsesFrom, packed}
+use Rattle.finder.specs.Find.{pulseAt, pulsesFrom, packed}
 use Rattle.finder.specs.RangeLaws.{pulses-count, packed-back}
 use Rattle.find.specs.Call.{findNumber, channelPulses, foundPulses, ruleTable, rulesOf, foundRules, FindSays}
 use Rattle.find.specs.CallLaws.{accepted, found-none, found-all}

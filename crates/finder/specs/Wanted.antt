@@ -1,47 +1,32 @@
--- A pulse with no more of it than is wanted, and what the first four samples say, found once a window. The paper's definitions are those of Find; PulsesLaws of
--- `channel` shows that a mode writes the same by these. Assumes nothing.
-use Prim.Native.Nat.{ℕ, _-_}
-use mathlib.Core.Bool.{Bool, cond, _&&_}
+-- A pulse with no more of it than is wanted, its time by any base. The paper's definitions are those of Find; PulsesLaws of `channel` shows that a mode writes
+-- the same by these. Assumes nothing.
+use Prim.Native.Nat.{ℕ}
+use mathlib.Core.Bool.{Bool, cond}
 use mathlib.Core.List.{List, [], _∷_}
 use lib.ListN.{length}
-use lib.Dec.{eqb, leb, ltb}
+use lib.Dec.{leb}
 use Rattle.ground.specs.Tests.{allOf}
-use Rattle.search.specs.Search.{ampAt, over, early}
-use Rattle.finder.specs.declared.Rule.the-variants.{Early, Late, Flat}
-use Rattle.finder.specs.declared.Base.{Base}
-use Rattle.finder.specs.declared.Time.{Time}
+use Rattle.search.specs.Search.{over}
+use Rattle.timing.specs.declared.Rule.the-variants.{Early}
+use Rattle.timing.specs.declared.Base.{Base}
+use Rattle.timing.specs.Integral.{integral}
+use Rattle.timing.specs.Time.{tcOnly}
+use Rattle.timing.specs.ByBase.{timeFrom}
 use Rattle.finder.specs.declared.Pulse.{Pulse}
-use Rattle.finder.specs.Find.{setFirst, setLast, integral, vmin, firstFall, vmid, n1, edgeTime, tcOnly, timeAt}
+use Rattle.finder.specs.Find.{setFirst, setLast}
 
--- what the first four samples say of every time: that rule 1 holds, or VMIN
-unfoldable pub baseOf : List ℕ → ℕ → Base
-baseOf w t = record { early = early w t; low = cond (early w t) 0 (vmin w) }
-
--- rule 4 by any base: where it has no edge, as in 3
-unfoldable pub edgeFrom : List ℕ → ℕ → ℕ → ℕ → Time
-edgeFrom w low tc peak =
-    cond (ltb low (ampAt w peak) && ltb 0 (n1 w (vmid (ampAt w peak) low) peak)) (edgeTime w low peak) (tcOnly tc low Flat)
-
--- the time by any base, in the rules' order
-unfoldable pub timeFrom : List ℕ → Base → ℕ → Time
-timeFrom w b tc =
-    cond (b .early) (tcOnly tc 0 Early)
-    (cond (ltb (length w - tc) 5) (tcOnly tc (b .low) Late)
-    (cond (eqb (firstFall w tc) 0) (tcOnly tc (b .low) Flat) (edgeFrom w (b .low) tc (firstFall w tc - 1))))
-
--- the pulse at TC: its sum where it is wanted, else 0; its time where it is wanted, else TC alone
-unfoldable pub pulseWith : Bool → Bool → List ℕ → ℕ → ℕ → ℕ → ℕ → Pulse
-pulseWith sums times w t nsb nsa tc =
+-- the pulse at TC: its sum where it is wanted, else 0; its time TC alone
+unfoldable pub coarsePulse : Bool → List ℕ → ℕ → ℕ → ℕ → Pulse
+coarsePulse sums w nsb nsa tc =
     let first : ℕ = setFirst tc nsb in
     let last : ℕ = setLast tc nsa (length w) in
-    record { tc = tc; first = first; last = last; sum = cond sums (integral w first last) 0; time = cond times (timeAt w t tc) (tcOnly tc 0 Early) }
+    record { tc = tc; first = first; last = last; sum = cond sums (integral w first last) 0; time = tcOnly tc 0 Early }
 
--- the same, its time by any base
+-- its time by the base where it is wanted
 unfoldable pub pulseFrom : Bool → Bool → List ℕ → Base → ℕ → ℕ → ℕ → Pulse
 pulseFrom sums times w b nsb nsa tc =
-    let first : ℕ = setFirst tc nsb in
-    let last : ℕ = setLast tc nsa (length w) in
-    record { tc = tc; first = first; last = last; sum = cond sums (integral w first last) 0; time = cond times (timeFrom w b tc) (tcOnly tc 0 Early) }
+    let p : Pulse = coarsePulse sums w nsb nsa tc in
+    record { tc = p .tc; first = p .first; last = p .last; sum = p .sum; time = cond times (timeFrom w b tc) (p .time) }
 
 -- sample k is one of the window, and over
 unfoldable pub isTc : List ℕ → ℕ → ℕ → Bool

@@ -9,7 +9,8 @@ use Rattle.ground.specs.Splice.{splice}
 use Rattle.refusals.specs.Refusal.{badArray, ifAccepted, orElse}
 use Rattle.finder.specs.declared.Pulse.{Pulse}
 use Rattle.finder.specs.declared.Pulses.{Pulses}
-use Rattle.finder.specs.Find.{noPulse, packed, ruleNumber}
+use Rattle.timing.specs.Time.{ruleNumber}
+use Rattle.finder.specs.Find.{noPulse, packed}
 use Rattle.find.specs.Call.{findNumber, foundPulses}
 use Rattle.numbers.specs.Numbers.{settingsFrom}
 use Rattle.numbers.specs.On.{onSettings}

@@ -1,7 +1,6 @@
 -- `finder::pulse_with` meets its contract: a TC that it may be lent is tested. Assumes nothing.
 use mathlib.Core.Path.{_≡_, sym, ap₂, _∙_}
 use mathlib.Core.Bool.{Bool, true, _&&_}
-use native.Mathlib.Omega.{arith}
 use borrow.Author.Needs.{needs}
 use borrow.Author.Tests.{not-true, not-false}
 use lib.ListN.{length}
@@ -33,21 +32,14 @@ module _ (c : tie.Else1) where
   over : IsOver (now (start .args .window)) (start .args .threshold) (start .args .tc)
   over = is-tc _ _ _ (and-right (searchable (length (now (start .args .window))) (start .args .nsa) 0) _ asked)
 
-set-last-requires : tie.Need-set-last-requires
-set-last-requires c κs =
-    let e = c .before in
-    (over e .from, omega (arith, over e .to, can e .short), can e .within)
-
-sum-if-requires : tie.Need-sum-if-requires
-sum-if-requires c κs = let e = c .before .before in omega (arith, can e .short, c .before .set-first .ensures, c .set-last .ensures)
+coarse-pulse-requires : tie.Need-coarse-pulse-requires
+coarse-pulse-requires c κs = (over c .from, over c .to, can c .short, can c .within)
 
 time-if-requires : tie.Need-time-if-requires
-time-if-requires c κs = let e = c .before .before .before in (over e .from, over e .to)
+time-if-requires c κs = (over (c .before) .from, over (c .before) .to)
 
 returns-2 : tie.Need-returns-2
-returns-2 c =
-    rw (asked (c .before .before .before .before))
-    (from-is _ _ _ _ _ _ _ _ _ _ _ (c .before .before .before .set-first .ensures) (c .before .before .set-last .ensures) (c .before .sum-if .ensures) (c .time-if .ensures))
+returns-2 c = rw (asked (c .before .before)) (from-is _ _ _ _ _ _ _ _ _ (c .before .coarse-pulse .ensures) (c .time-if .ensures))
 
 pub pulse-with-spec : {M : Type 1} → statement M
 pulse-with-spec =
@@ -57,8 +49,6 @@ pulse-with-spec =
     (λ c κs. search needs)
     (λ c κs. search needs)
     returns
-    (λ c κs. search needs)
-    set-last-requires
-    sum-if-requires
+    coarse-pulse-requires
     time-if-requires
     returns-2)

@@ -1,10 +1,13 @@
 -- `finder::time_if` meets its contract. Assumes nothing.
 use borrow.Author.Needs.{needs}
+use Rattle.timing.specs.TimeLaws.{in-window}
 use Rattle.finder.proofs.time_if.Statement.{statement}
 use Rattle.finder.proofs.time_if.Tie as tie
 
 returns : tie.Need-returns
-returns c = rw (c .before .if1 .taken) (c .time-from .ensures)
+returns c =
+    let s = c .before .before .before in
+    rw (c .before .if1 .taken) (rw (in-window _ _ (s .pre .0) (s .pre .1)) at (c .time-from .ensures))
 
 returns-2 : tie.Need-returns-2
 returns-2 c = rw (c .before .if1 .left) (c .tc-only .ensures)

@@ -1,10 +1,10 @@
--- `finder::base_of` meets its contract. Assumes nothing.
+-- `timing::base_of` meets its contract. Assumes nothing.
 use mathlib.Core.Path.{sym, _∙_}
 use borrow.Author.Needs.{needs}
 use Rattle.search.specs.SearchLaws.{quiet}
-use Rattle.finder.specs.FindLaws.{base-early, base-low}
-use Rattle.finder.proofs.base_of.Statement.{statement}
-use Rattle.finder.proofs.base_of.Tie as tie
+use Rattle.timing.specs.TimeLaws.{base-early, base-low}
+use Rattle.timing.proofs.base_of.Statement.{statement}
+use Rattle.timing.proofs.base_of.Tie as tie
 
 returns : tie.Need-returns
 returns c = base-early _ _ (sym (c .before .is-early .ensures) ∙ c .if1 .taken)

@@ -1,14 +1,14 @@
--- `finder::time_from` meets its contract, rule by rule. Assumes nothing.
+-- `timing::time_in` meets its contract, rule by rule. Assumes nothing.
 use mathlib.Core.Path.{sym, _∙_}
 use native.Mathlib.Omega.{arith}
 use borrow.Author.Needs.{needs}
 use denote.Ref.{now}
 use lib.ListN.{length}
 use Rattle.ground.specs.SearchLaws.{IsLeast, least-found}
-use Rattle.finder.specs.Find.{falls, firstFall}
-use Rattle.finder.specs.FindLaws.{from-early, from-late, from-flat, from-edge}
-use Rattle.finder.proofs.time_from.Statement.{statement}
-use Rattle.finder.proofs.time_from.Tie as tie
+use Rattle.timing.specs.Time.{falls, firstFall}
+use Rattle.timing.specs.TimeLaws.{from-early, from-late, from-flat, from-edge}
+use Rattle.timing.proofs.time_in.Statement.{statement}
+use Rattle.timing.proofs.time_in.Tie as tie
 
 returns : tie.Need-returns
 returns c = c .tc-only .ensures ∙ sym (from-early _ _ _ (c .before .if1 .taken))
@@ -37,8 +37,8 @@ returns-4 c =
     let f = c .before .before in
     c .edge-time .ensures ∙ sym (from-edge _ _ _ (f .before .before .if1 .left) _ (f .before .if2 .left) (f .first-fall .ensures) (c .before .if3 .left))
 
-pub time-from-spec : {M : Type 1} → statement M
-time-from-spec =
+pub time-in-spec : {M : Type 1} → statement M
+time-in-spec =
     tie.close
     (tie.spec
     (λ c κs. search needs)
