@@ -17,7 +17,8 @@ use Rattle.closing.specs.Closing.{CloseSays}
 use Rattle.block.specs.Block.{endItems}
 use Rattle.writer.specs.CallsLaws.{done}
 use Rattle.bytecheck.specs.Check.{checkNumber}
-use Rattle.numbers.specs.Numbers.{isState, table, marksFrom, stateFrom, numbersOf}
+use Rattle.places.specs.Places.{isState}
+use Rattle.numbers.specs.Numbers.{table, marksFrom, stateFrom, numbersOf}
 use Rattle.numbers.specs.On.{onState}
 use Rattle.host.specs.Face.{FinishFace}
 use Rattle.numbers.specs.BackLaws.{Loads, numbers-back}

@@ -15,7 +15,8 @@ use Rattle.writer.specs.declared.Finished.{Finished}
 use Rattle.writer.specs.Calls.{SetUpSays, FinishSays}
 use Rattle.block.specs.Block.{blockItems}
 use Rattle.refusing.specs.Tables.{closingItems}
-use Rattle.numbers.specs.Numbers.{isState, settingsFrom, stateFrom}
+use Rattle.places.specs.Places.{isState}
+use Rattle.numbers.specs.Numbers.{settingsFrom, stateFrom}
 use Rattle.hostfind.specs.Found.{foundNumbers}
 use Rattle.host.specs.Face.{inHigh, OpenBlockFace, OpenEventFace, PostFace, CloseFace, FinishFace}
 use Rattle.numbers.specs.BackLaws.{Loads}

@@ -25,7 +25,8 @@ use Rattle.closing.specs.Closing.{CloseSays}
 use Rattle.refusing.specs.Tables.{setUpNumber, openBlockTable, openBlockNumber, openEventTable, openEventNumber, postTable, postNumber, closeTable, closeNumber, finishTable, finishNumber}
 use Rattle.block.specs.Block.{endItems}
 use Rattle.writer.specs.CallsLaws.{done, refused}
-use Rattle.numbers.specs.Numbers.{stateCount, heldIn, isSettings, isState, settingsFrom, table, marksFrom, stateFrom, numbersOf}
+use Rattle.places.specs.Places.{stateCount, heldIn, isSettings, isState}
+use Rattle.numbers.specs.Numbers.{settingsFrom, table, marksFrom, stateFrom, numbersOf}
 use Rattle.numbers.specs.On.{onState, onSettings}
 use Rattle.host.specs.Face.{blockOpened, posted, eventClosed, finishOn, inHigh, SetUpFace, OpenBlockFace, OpenEventFace, PostFace, CloseFace, FinishFace}
 use Rattle.hostfind.specs.Found.{foundCount, foundNumbers, FindFace}

@@ -58,6 +58,7 @@ use Rattle.follow.proofs as follow
 use Rattle.records.proofs as records
 use Rattle.copies.proofs as copies
 use Rattle.numbers.proofs as numbers
+use Rattle.places.proofs as places
 use Rattle.runs.proofs as runs
 use Rattle.bytecheck.proofs as bytecheck
 use Rattle.host.proofs as host
@@ -634,10 +635,10 @@ pub put64-unique : Unique copies.put64.ended copies.put64.Reads.Learnt
 put64-unique κs a r s u v p q = (refl, λ i. (one-result p q i, u .1))
 
 -- numbers
-pub is-settings-unique : Unique numbers.held.is_settings.ended numbers.held.is_settings.Reads.Learnt
+pub is-settings-unique : Unique places.is_settings.ended places.is_settings.Reads.Learnt
 is-settings-unique κs a r s u v p q = by-equation p q
 
-pub is-state-unique : Unique numbers.held.is_state.ended numbers.held.is_state.Reads.Learnt
+pub is-state-unique : Unique places.is_state.ended places.is_state.Reads.Learnt
 is-state-unique κs a r s u v p q = by-equation p q
 
 pub settings-or-none-unique : Unique numbers.load.settings_or_none.ended numbers.load.settings_or_none.Reads.Learnt

@@ -9,7 +9,8 @@ use Rattle.ground.specs.Splice.{splice}
 use Rattle.refusals.specs.Refusal.{badArray, ifAccepted, orElse}
 use Rattle.state.specs.declared.State.{State}
 use Rattle.state.specs.State.{idle, withBlock, withEvent, withMark, withClosed}
-use Rattle.numbers.specs.Numbers.{stateCount, settingsFrom, stateFrom, numbersOf}
+use Rattle.places.specs.Places.{stateCount}
+use Rattle.numbers.specs.Numbers.{settingsFrom, stateFrom, numbersOf}
 use Rattle.numbers.specs.On.{onState, onSettings}
 use Rattle.items.specs.Items.{wordsOf}
 use Rattle.writer.specs.Calls.{rowStart}

@@ -28,10 +28,11 @@ use Rattle.refusing.specs.Tables.{setUpNumber, openBlockTable, openBlockNumber,
 use Rattle.refusing.specs.TablesLaws.{post-accepted}
 use Rattle.block.specs.Block.{blockItems, endItems}
 use Rattle.writer.specs.CallsLaws.{done}
-use Rattle.numbers.specs.Numbers.{marksAt, headCount, stateCount, isSettings, isState, settingsFrom, stateFrom, settingsOrNone, stateOrNone, settingsNumbers, headOf, numbersOf, headStored, stateStored}
+use Rattle.places.specs.Places.{marksAt, headCount, stateCount, isSettings, isState}
+use Rattle.numbers.specs.Numbers.{settingsFrom, stateFrom, settingsOrNone, stateOrNone, settingsNumbers, headOf, numbersOf, headStored, stateStored}
 use Rattle.numbers.specs.On.{onState, onSettings}
 use Rattle.numbers.specs.OnLaws.{none-out, settings-number, settings-accepted}
-use Rattle.numbers.specs.NumbersLaws.{settings-count, state-count, state-settings-held, head-held}
+use Rattle.places.specs.PlacesLaws.{settings-count, state-count, state-settings-held, head-held}
 use Rattle.numbers.specs.StoreLaws.{head-over}
 use Rattle.numbers.specs.BackLaws.{settings-back, event-stored, mark-stored}
 use Rattle.host.specs.Face.{blockOpened, posted, eventClosed, finishOn, inHigh, SetUpFace, OpenBlockFace, OpenEventFace, PostFace, CloseFace, FinishFace}

@@ -5,7 +5,8 @@ use mathlib.Core.List.{List}
 use lib.ListN.{length, getD, set}
 use Rattle.state.specs.declared.Phase.the-variants.{Event}
 use Rattle.state.specs.declared.State.{State}
-use Rattle.numbers.specs.Numbers.{phaseAt, eventAt, triggerTimeAt, marksAt, headCount, phaseNumber, headStored}
+use Rattle.places.specs.Places.{phaseAt, eventAt, triggerTimeAt, marksAt, headCount}
+use Rattle.numbers.specs.Numbers.{phaseNumber, headStored}
 use Rattle.refusals.specs.Refusal.{ifAccepted}
 
 -- an accepted call's state stored over the front of the numbers n

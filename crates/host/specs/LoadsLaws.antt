@@ -18,8 +18,9 @@ use Rattle.block.specs.Block.{endItems}
 use Rattle.refusing.specs.TablesLaws.{finish-accepted}
 use Rattle.writer.specs.KeptLaws.{open-block-kept, open-event-kept, post-kept, closing-kept, finish-kept, set-up-kept}
 use Rattle.block.specs.BlockLaws.{end-length, multiple-positive, fillers-lt}
-use Rattle.numbers.specs.Numbers.{headCount, stateCount, isSettings, isState, settingsFrom, table, marksFrom, stateFrom, numbersOf}
-use Rattle.numbers.specs.NumbersLaws.{state-settings-held}
+use Rattle.places.specs.Places.{headCount, stateCount, isSettings, isState}
+use Rattle.numbers.specs.Numbers.{settingsFrom, table, marksFrom, stateFrom, numbersOf}
+use Rattle.places.specs.PlacesLaws.{state-settings-held}
 use Rattle.numbers.specs.BackLaws.{Loads, state-back}
 use Rattle.host.specs.Face.{blockOpened, posted, eventClosed, finishOn, SetUpFace, OpenBlockFace, OpenEventFace, PostFace, CloseFace, FinishFace}
 

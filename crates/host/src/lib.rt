@@ -3,7 +3,7 @@
 ghost use mathlib.Core.Path.{_≡_};
 ghost use Prim.Native.Nat.{_≤_};
 ghost use lib.ListN.{length};
-ghost use Rattle.numbers.specs.Numbers.{headCount};
+ghost use Rattle.places.specs.Places.{headCount};
 ghost use Rattle.refusals.specs.Refusal.{numberOf};
 ghost use Rattle.host.specs.Face.{SetUpFace, OpenBlockFace, OpenEventFace, PostFace, CloseFace, FinishFace, inHigh};
 ghost use Rattle.host.specs.Inner.{Kept, eventPlaced, MarkFits, markPlaced};
@@ -24,12 +24,12 @@ pub extern "C" fn fadc250_set_up(settings: &[u64], state: &mut [u64]) -> u32
     let loaded = settings_or_none(settings);
     let answer = writer::set_up(loaded);
     let refusal = answer.refusal;
-    if state.len() != numbers::STATE {
+    if state.len() != places::STATE {
         return refusals::or_bad_array(refusal);
     }
     if !refusals::accepted(refusal) {
         // no call takes zeros for a state
-        let zeros: [u64; numbers::STATE] = [0; numbers::STATE];
+        let zeros: [u64; places::STATE] = [0; places::STATE];
         copies::put64(state, 0, &zeros);
         return refusals::number(refusal);
     }
@@ -77,9 +77,9 @@ fn place_event(numbers: &mut [u64], number: u32, time: u64)
     requires { ⌜ headCount ≤ length (now numbers) ⌝ }
     ensures { λ _. ⌜ now (numbers .exit) ≡ eventPlaced (now (numbers .entry)) number time ⌝ }
 {
-    numbers[numbers::PHASE] = phase_number(Phase::Event);
-    numbers[numbers::EVENT] = number as u64;
-    numbers[numbers::TIME] = time;
+    numbers[places::PHASE] = phase_number(Phase::Event);
+    numbers[places::EVENT] = number as u64;
+    numbers[places::TIME] = time;
 }
 
 #[no_mangle]
@@ -101,7 +101,7 @@ fn place_mark(numbers: &mut [u64], channel: u32)
     requires { ⌜ MarkFits (now numbers) channel ⌝ }
     ensures { λ _. ⌜ now (numbers .exit) ≡ markPlaced (now (numbers .entry)) channel ⌝ }
 {
-    numbers[numbers::MARKS] = numbers[numbers::MARKS] + (1 << channel);
+    numbers[places::MARKS] = numbers[places::MARKS] + (1 << channel);
 }
 
 #[no_mangle]

@@ -26,7 +26,8 @@ use Rattle.finder.specs.RangeLaws.{PulseFits, EachFits, fits-at, pulses-fit, pu
 use Rattle.find.specs.Call.{findTable, findNumber, channelPulses, foundPulses, FindSays}
 use Rattle.find.specs.CallLaws.{accepted, found-none, found-all}
 use Rattle.state.specs.State.{blank}
-use Rattle.numbers.specs.Numbers.{isSettings, settingsFrom, settingsOrNone}
+use Rattle.places.specs.Places.{isSettings}
+use Rattle.numbers.specs.Numbers.{settingsFrom, settingsOrNone}
 use Rattle.numbers.specs.On.{onSettings}
 use Rattle.numbers.specs.OnLaws.{none-out, settings-number}
 use Rattle.hostfind.specs.Found.{pulseNumbers, pulseCount, pulseRow, foundCount, foundNumbers, FindFace}

@@ -17,8 +17,10 @@ use Rattle.state.specs.declared.Phase.the-variants.{Idle, Block, Event}
 use Rattle.state.specs.declared.State.{State}
 use Rattle.state.specs.State.{isIdle, isBlock, isEvent, stateOk, withEvent, withMark}
 use Rattle.state.specs.StateLaws.{idle-says, block-says, event-says, words-le}
-use Rattle.numbers.specs.Numbers.{parametersAt, thresholdsAt, most32, most64, settingsLimits, phaseAt, blockAt, eventsAt, eventAt, triggerTimeAt, marksAt, closedAt, wordsAt, headLimits, headCount, heldIn, isSettings, isState, settingsFrom, phaseFrom, table, marksFrom, stateFrom, markBit, settingsNumbers, phaseNumber, marksNumber, headOf, numbersOf}
-use Rattle.numbers.specs.NumbersLaws.{held-at, settings-count, marks-small, state-count, state-settings-held, head-held}
+use Rattle.places.specs.Places.{parametersAt, thresholdsAt, most32, most64, settingsLimits, phaseAt, blockAt, eventsAt, eventAt, triggerTimeAt, marksAt, closedAt, wordsAt, headLimits, headCount, heldIn, isSettings, isState}
+use Rattle.numbers.specs.Numbers.{settingsFrom, phaseFrom, table, marksFrom, stateFrom, markBit, settingsNumbers, phaseNumber, marksNumber, headOf, numbersOf}
+use Rattle.places.specs.PlacesLaws.{held-at, settings-count, state-count, state-settings-held, head-held}
+use Rattle.numbers.specs.NumbersLaws.{marks-small}
 
 -- ---- settings, loaded and stored
 

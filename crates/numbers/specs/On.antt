@@ -4,7 +4,7 @@ use mathlib.Core.Bool.{cond}
 use mathlib.Core.List.{List}
 use Rattle.refusals.specs.Refusal.{numberOf}
 use Rattle.refusals.specs.declared.Refusal.the-variants as R
-use Rattle.numbers.specs.Numbers.{isSettings, isState}
+use Rattle.places.specs.Places.{isSettings, isState}
 
 -- for those that are no state, "state breaks its ranges"
 abbrev pub onState : List ℕ → ℕ → ℕ

@@ -9,7 +9,8 @@ use Rattle.settings.specs.Ranges.{ranges, settingsOk}
 use Rattle.refusals.specs.Refusal.{numberOf}
 use Rattle.refusals.specs.declared.Refusal.the-variants as R
 use Rattle.state.specs.State.{idle, blank}
-use Rattle.numbers.specs.Numbers.{isSettings, settingsFrom, settingsOrNone}
+use Rattle.places.specs.Places.{isSettings}
+use Rattle.numbers.specs.Numbers.{settingsFrom, settingsOrNone}
 use Rattle.numbers.specs.On.{onSettings}
 
 -- what stands for none is out of range

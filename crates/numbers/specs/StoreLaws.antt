@@ -17,33 +17,9 @@ use Rattle.settings.specs.declared.Settings.{Settings}
 use Rattle.state.specs.declared.Phase.{Phase}
 use Rattle.state.specs.declared.State.{State}
 use Rattle.state.specs.State.{blank}
-use Rattle.numbers.specs.Numbers.{modeAt, nwAt, plAt, nsbAt, nsaAt, limitAt, slotAt, parametersAt, timesAt, multipleAt, thresholdsAt, most32, settingsLimits, settingsCount, phaseAt, blockAt, eventsAt, eventAt, triggerTimeAt, marksAt, closedAt, wordsAt, headLimits, headCount, stateCount, heldIn, isSettings, isState, settingsFrom, phaseFrom, marksFrom, stateFrom, settingsOrNone, stateOrNone, phaseNumber, marksNumber, headOf, headStored, stateStored}
-use Rattle.numbers.specs.NumbersLaws.{held-other, held-parts, held-same, settings-32, head-32, tail-part}
-
--- ---- asking
-
--- the fields and the thresholds of settings, as the code cuts them
-pub settings-asked : (n : List ℕ) {l : List ℕ} {f t : Bool} → 16 ≤ length n → l ≡ take thresholdsAt settingsLimits
-    → f ≡ heldIn l (take (length n - 16) n)
-    → t ≡ allLe most32 (take (length n - (length n - 16)) (drop (length n - 16) n))
-    → f && t ≡ isSettings n
-unfolding isSettings
-settings-asked n h e f g =
-    let k : ℕ = length n - 16 in
-    let long : length (drop k n) ≡ 16 = omega (arith, length-drop k n) in
-    ap₂ _&&_ (f ∙ ap (λ (l : List ℕ). heldIn l (take k n)) e) (g ∙ ap (allLe most32) (tail-part n k) ∙ sym (held-same most32 16 (drop k n) long))
-    ∙ sym (held-parts (take thresholdsAt settingsLimits) (replicate 16 most32) (take k n) (drop k n) long)
-    ∙ ap (heldIn settingsLimits) (take-append-drop k n)
-
-pub settings-short : (n : List ℕ) → length n < 16 → isSettings n ≡ false
-unfolding isSettings
-settings-short n h = held-other settingsLimits n (λ (e : length n ≡ settingsCount). omega arith)
-
--- the two parts of a state's numbers, as the code cuts them
-pub state-asked : (n : List ℕ) {l : List ℕ} {h s : Bool} → l ≡ headLimits → h ≡ heldIn l (take headCount n) → s ≡ isSettings (take (length n - headCount) (drop headCount n)) → h && s ≡ isState n
-unfolding isState
-state-asked n e f g =
-    ap₂ _&&_ (f ∙ ap (λ (l : List ℕ). heldIn l (take headCount n)) e) (g ∙ ap isSettings (tail-part n headCount))
+use Rattle.places.specs.Places.{modeAt, nwAt, plAt, nsbAt, nsaAt, limitAt, slotAt, parametersAt, timesAt, multipleAt, thresholdsAt, most32, settingsLimits, settingsCount, phaseAt, blockAt, eventsAt, eventAt, triggerTimeAt, marksAt, closedAt, wordsAt, headLimits, headCount, stateCount, heldIn, isSettings, isState}
+use Rattle.numbers.specs.Numbers.{settingsFrom, phaseFrom, marksFrom, stateFrom, settingsOrNone, stateOrNone, phaseNumber, marksNumber, headOf, headStored, stateStored}
+use Rattle.places.specs.PlacesLaws.{held-other, held-parts, held-same, settings-32, head-32, tail-part}
 
 -- ---- loading numbers that are held
 

@@ -3,9 +3,10 @@ ghost use mathlib.Core.Path.{_≡_};
 ghost use mathlib.Core.Bool.{true};
 ghost use Prim.Native.Nat.{_%_, _<_};
 ghost use lib.ListN.{length, getD, take, drop};
-ghost use Rattle.numbers.specs.Numbers.{thresholdsAt, isSettings, isState, settingsFrom, phaseFrom, marksFrom, stateFrom, settingsOrNone, stateOrNone};
-use crate::held::is_settings;
-use crate::held::is_state;
+ghost use Rattle.places.specs.Places.{thresholdsAt, isSettings, isState};
+ghost use Rattle.numbers.specs.Numbers.{settingsFrom, phaseFrom, marksFrom, stateFrom, settingsOrNone, stateOrNone};
+use places::is_settings;
+use places::is_state;
 use settings::Settings;
 use state::Phase;
 use state::State;
@@ -33,7 +34,7 @@ fn thresholds_from(numbers: &[u64]) -> [u32; 16]
     let mut thresholds = [0u32; 16];
     let mut channel: usize = 0;
     while channel < 16 {
-        thresholds[channel] = at32(numbers, crate::THRESHOLDS + channel);
+        thresholds[channel] = at32(numbers, places::THRESHOLDS + channel);
         channel += 1;
     }
     thresholds
@@ -45,17 +46,17 @@ fn settings_from(numbers: &[u64]) -> Settings
 {
     let thresholds = thresholds_from(numbers);
     Settings {
-        mode: at32(numbers, crate::MODE),
-        nw: at(numbers, crate::NW) as usize,
-        pl: at32(numbers, crate::PL),
-        nsb: at(numbers, crate::NSB) as usize,
-        nsa: at(numbers, crate::NSA) as usize,
-        limit: at(numbers, crate::LIMIT) as usize,
+        mode: at32(numbers, places::MODE),
+        nw: at(numbers, places::NW) as usize,
+        pl: at32(numbers, places::PL),
+        nsb: at(numbers, places::NSB) as usize,
+        nsa: at(numbers, places::NSA) as usize,
+        limit: at(numbers, places::LIMIT) as usize,
         thresholds,
-        slot: at32(numbers, crate::SLOT),
-        parameters: at(numbers, crate::PARAMETERS) == 1,
-        times: at32(numbers, crate::TIMES),
-        multiple: at32(numbers, crate::MULTIPLE),
+        slot: at32(numbers, places::SLOT),
+        parameters: at(numbers, places::PARAMETERS) == 1,
+        times: at32(numbers, places::TIMES),
+        multiple: at32(numbers, places::MULTIPLE),
     }
 }
 
@@ -105,19 +106,19 @@ fn state_from(numbers: &[u64]) -> State
     requires { ⌜ isState (now numbers) ≡ true ⌝ }
     ensures { λ r. ⌜ r ≡ stateFrom (now (numbers .entry)) ⌝ }
 {
-    let settings = settings_from(&numbers[crate::HEAD..]);
-    let phase = phase_from(at(numbers, crate::PHASE));
-    let posted = marks_from(at(numbers, crate::MARKS));
+    let settings = settings_from(&numbers[places::HEAD..]);
+    let phase = phase_from(at(numbers, places::PHASE));
+    let posted = marks_from(at(numbers, places::MARKS));
     State {
         settings,
         phase,
-        block: at32(numbers, crate::BLOCK),
-        events: at32(numbers, crate::EVENTS),
-        event: at32(numbers, crate::EVENT),
-        time: at(numbers, crate::TIME),
+        block: at32(numbers, places::BLOCK),
+        events: at32(numbers, places::EVENTS),
+        event: at32(numbers, places::EVENT),
+        time: at(numbers, places::TIME),
         posted,
-        closed: at32(numbers, crate::CLOSED),
-        words: at(numbers, crate::WORDS) as usize,
+        closed: at32(numbers, places::CLOSED),
+        words: at(numbers, places::WORDS) as usize,
     }
 }
 

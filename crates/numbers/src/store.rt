@@ -3,9 +3,9 @@ ghost use mathlib.Core.Path.{_≡_};
 ghost use Prim.Native.Nat.{_≤_};
 ghost use lib.ListN.{length};
 ghost use Rattle.numbers.specs.Numbers.{markBit, phaseNumber, marksNumber, headOf, headStored, stateStored};
-use crate::HEAD;
-use crate::SETTINGS;
-use crate::STATE;
+use places::HEAD;
+use places::SETTINGS;
+use places::STATE;
 use state::Phase;
 use state::State;
 

@@ -4,7 +4,7 @@ use mathlib.Core.Path.{ap}
 use native.Mathlib.Omega.{arith}
 use borrow.Author.Needs.{needs}
 use lib.ListN.{set, length-set}
-use Rattle.numbers.specs.Numbers.{phaseAt, eventAt, triggerTimeAt}
+use Rattle.places.specs.Places.{phaseAt, eventAt, triggerTimeAt}
 use Rattle.host.proofs.place_event.Statement.{statement}
 use Rattle.host.proofs.place_event.Tie as tie
 

@@ -4,7 +4,7 @@ use mathlib.Core.Path.{_≡_, refl, ap}
 use native.Mathlib.Omega.{arith}
 use borrow.Author.Needs.{needs}
 use lib.ListN.{getD, set}
-use Rattle.numbers.specs.Numbers.{marksAt}
+use Rattle.places.specs.Places.{marksAt}
 use Rattle.numbers.specs.NumbersLaws.{bit-small}
 use Rattle.host.proofs.place_mark.Statement.{statement}
 use Rattle.host.proofs.place_mark.Tie as tie

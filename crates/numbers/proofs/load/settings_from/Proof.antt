@@ -1,6 +1,6 @@
 -- `numbers::load::settings_from` meets its contract. Assumes nothing.
 use borrow.Author.Needs.{needs}
-use Rattle.numbers.specs.NumbersLaws.{settings-count}
+use Rattle.places.specs.PlacesLaws.{settings-count}
 use Rattle.numbers.specs.StoreLaws.{settings-loaded}
 use Rattle.numbers.proofs.load.settings_from.Statement.{statement}
 use Rattle.numbers.proofs.load.settings_from.Tie as tie

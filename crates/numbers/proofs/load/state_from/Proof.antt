@@ -1,8 +1,8 @@
 -- `numbers::load::state_from` meets its contract. Assumes nothing.
 use native.Mathlib.Omega.{arith}
 use borrow.Author.Needs.{needs}
-use Rattle.numbers.specs.Numbers.{headCount, marksAt}
-use Rattle.numbers.specs.NumbersLaws.{state-count, state-settings-held, head-held, tail-part}
+use Rattle.places.specs.Places.{headCount, marksAt}
+use Rattle.places.specs.PlacesLaws.{state-count, state-settings-held, head-held, tail-part}
 use Rattle.numbers.specs.StoreLaws.{state-loaded}
 use Rattle.numbers.proofs.load.state_from.Statement.{statement}
 use Rattle.numbers.proofs.load.state_from.Tie as tie

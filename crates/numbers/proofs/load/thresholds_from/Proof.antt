@@ -7,8 +7,8 @@ use borrow.Author.Needs.{needs}
 use lib.ListN.{length, take, drop, set, replicate, length-set}
 use Rattle.ground.specs.CopyLaws.{Copied, copy-start, copy-turn, copy-end}
 use Rattle.ground.specs.SpliceLaws.{splice-all}
-use Rattle.numbers.specs.Numbers.{thresholdsAt}
-use Rattle.numbers.specs.NumbersLaws.{settings-count, thresholds-16, threshold-at}
+use Rattle.places.specs.Places.{thresholdsAt}
+use Rattle.places.specs.PlacesLaws.{settings-count, thresholds-16, threshold-at}
 use Rattle.numbers.proofs.load.thresholds_from.Statement.{statement}
 use Rattle.numbers.proofs.load.thresholds_from.Tie as tie
 

@@ -1,14 +1,14 @@
--- `numbers::held::held_in_32` meets its contract. The invariant: what was tested and what is left are the whole. Assumes nothing.
+-- `places::held_in_32` meets its contract. The invariant: what was tested and what is left are the whole. Assumes nothing.
 use Prim.Native.Nat.{_-_}
 use mathlib.Core.Path.{_≡_, refl}
 use mathlib.Core.Bool.{_&&_}
 use borrow.Author.Needs.{needs}
 use lib.ListN.{length, drop}
 use Rattle.ground.specs.Tests.{allLe}
-use Rattle.numbers.specs.Numbers.{most32}
+use Rattle.places.specs.Places.{most32}
 use Rattle.ground.specs.TestsLaws.{tested-turn, tested-end}
-use Rattle.numbers.proofs.held.held_in_32.Statement.{statement}
-use Rattle.numbers.proofs.held.held_in_32.Tie as tie
+use Rattle.places.proofs.held_in_32.Statement.{statement}
+use Rattle.places.proofs.held_in_32.Tie as tie
 
 abbrev Inv-loop : tie.InvT-loop
 Inv-loop numbers good₀ i₀ good i = good && allLe most32 (drop i numbers) ≡ allLe most32 numbers

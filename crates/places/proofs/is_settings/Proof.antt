@@ -1,12 +1,12 @@
--- `numbers::held::is_settings` meets its contract. Assumes nothing.
+-- `places::is_settings` meets its contract. Assumes nothing.
 use Prim.Native.Nat.{_-_}
 use mathlib.Core.Path.{sym}
 use native.Mathlib.Omega.{arith}
 use borrow.Author.Needs.{needs}
 use lib.ListN.{length, length-take}
-use Rattle.numbers.specs.StoreLaws.{settings-short, settings-asked}
-use Rattle.numbers.proofs.held.is_settings.Statement.{statement}
-use Rattle.numbers.proofs.held.is_settings.Tie as tie
+use Rattle.places.specs.PlacesLaws.{settings-short, settings-asked}
+use Rattle.places.proofs.is_settings.Statement.{statement}
+use Rattle.places.proofs.is_settings.Tie as tie
 
 returns : tie.Need-returns
 returns c = sym (settings-short (c .before .before .args .numbers .now) (c .if1 .taken))

@@ -1,13 +1,12 @@
--- `numbers::held::is_state` meets its contract. Assumes nothing.
+-- `places::is_state` meets its contract. Assumes nothing.
 use mathlib.Core.Path.{_≡_, sym}
 use native.Mathlib.Omega.{arith}
 use borrow.Author.Needs.{needs}
 use lib.ListN.{length, take, length-take}
-use Rattle.numbers.specs.Numbers.{headCount}
-use Rattle.numbers.specs.NumbersLaws.{short-none}
-use Rattle.numbers.specs.StoreLaws.{state-asked}
-use Rattle.numbers.proofs.held.is_state.Statement.{statement}
-use Rattle.numbers.proofs.held.is_state.Tie as tie
+use Rattle.places.specs.Places.{headCount}
+use Rattle.places.specs.PlacesLaws.{short-none, state-asked}
+use Rattle.places.proofs.is_state.Statement.{statement}
+use Rattle.places.proofs.is_state.Tie as tie
 
 returns : tie.Need-returns
 returns c = sym (short-none (c .before .before .args .numbers .now) (c .if1 .taken))

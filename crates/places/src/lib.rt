@@ -1,11 +1,56 @@
-// Which numbers are settings, and which are a state.
+// Where each number of settings and of a state stands, which numbers are settings, and which are a state.
 ghost use mathlib.Core.Path.{_≡_};
 ghost use lib.ListN.{take};
 ghost use Rattle.ground.specs.Tests.{allLe};
-ghost use Rattle.numbers.specs.Numbers.{thresholdsAt, most32, settingsLimits, headLimits, heldIn, isSettings, isState};
-use crate::CHANNELS;
-use crate::HEAD;
-use crate::THRESHOLDS;
+ghost use Rattle.places.specs.Places.{thresholdsAt, most32, settingsLimits, headLimits, heldIn, isSettings, isState};
+
+// Where the settings stand; the sixteen thresholds are the last.
+pub const MODE: usize = 0;
+
+pub const NW: usize = 1;
+
+pub const PL: usize = 2;
+
+pub const NSB: usize = 3;
+
+pub const NSA: usize = 4;
+
+pub const LIMIT: usize = 5;
+
+pub const SLOT: usize = 6;
+
+pub const PARAMETERS: usize = 7;
+
+pub const TIMES: usize = 8;
+
+pub const MULTIPLE: usize = 9;
+
+pub const THRESHOLDS: usize = 10;
+
+pub const CHANNELS: usize = 16;
+
+pub const SETTINGS: usize = THRESHOLDS + CHANNELS;
+
+// Where a state's own numbers stand, the head; the settings are behind them.
+pub const PHASE: usize = 0;
+
+pub const BLOCK: usize = 1;
+
+pub const EVENTS: usize = 2;
+
+pub const EVENT: usize = 3;
+
+pub const TIME: usize = 4;
+
+pub const MARKS: usize = 5;
+
+pub const CLOSED: usize = 6;
+
+pub const WORDS: usize = 7;
+
+pub const HEAD: usize = WORDS + 1;
+
+pub const STATE: usize = HEAD + SETTINGS;
 
 // The greatest numbers of a 32-bit and of a 64-bit field.
 const MOST_32: u64 = 4294967295;

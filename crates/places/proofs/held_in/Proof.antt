@@ -1,14 +1,14 @@
--- `numbers::held::held_in` meets its contract. The invariant: what was asked and what is left are the whole. Assumes nothing.
+-- `places::held_in` meets its contract. The invariant: what was asked and what is left are the whole. Assumes nothing.
 use Prim.Native.Nat.{_-_}
 use mathlib.Core.Path.{_≡_, refl, sym}
 use mathlib.Core.Bool.{_&&_}
 use native.Mathlib.Omega.{arith}
 use borrow.Author.Needs.{needs}
 use lib.ListN.{length, drop}
-use Rattle.numbers.specs.Numbers.{heldIn}
-use Rattle.numbers.specs.NumbersLaws.{held-other, held-turn, held-end}
-use Rattle.numbers.proofs.held.held_in.Statement.{statement}
-use Rattle.numbers.proofs.held.held_in.Tie as tie
+use Rattle.places.specs.Places.{heldIn}
+use Rattle.places.specs.PlacesLaws.{held-other, held-turn, held-end}
+use Rattle.places.proofs.held_in.Statement.{statement}
+use Rattle.places.proofs.held_in.Tie as tie
 
 abbrev Inv-loop : tie.InvT-loop
 Inv-loop limits numbers good₀ i₀ good i = good && heldIn (drop i limits) (drop i numbers) ≡ heldIn limits numbers
