@@ -48,3 +48,6 @@ module _ (bytes : List ℕ) {from size : ℕ} (j : ℕ) (whole : from ≡ 4 * j)
       word-is (take size (drop from bytes)) i (omega (arith, part-length))
       ∙ rw (byte (4 * i) (omega arith), byte (4 * i + 1) (omega arith), byte (4 * i + 2) (omega arith), byte (4 * i + 3) (omega arith), a, b, c, d)
       (sym (word-is bytes (j + i) (omega arith)))
+
+  pub part-first : 4 ≤ size → getD (wordsOfBytes (take size (drop from bytes))) 0 0 ≡ getD (wordsOfBytes bytes) j 0
+  part-first h = let z : j + 0 ≡ j = omega arith in word-part 0 (omega arith) ∙ ap (λ (n : ℕ). getD (wordsOfBytes bytes) n 0) z
