@@ -1,6 +1,6 @@
 -- The bits of a word, asked of its bytes joined lowest first. Assumes nothing.
 use Prim.Native.Nat.{ℕ, _+_, _*_, _/_, _%_, _^_, _≤_, _<_}
-use mathlib.Core.Path.{_≡_, refl, sym}
+use mathlib.Core.Path.{_≡_, refl, sym, _∙_}
 use mathlib.Core.Bool.{Bool, true, false, _&&_, _||_}
 use mathlib.Core.List.{List}
 use native.Mathlib.Omega.{arith}
@@ -8,7 +8,7 @@ use borrow.Author.Tests.{eqb-true, eq-eqb}
 use lib.Dec.{eqb}
 use lib.ListN.{length, getD}
 use Rattle.ground.specs.TestsLaws.{and-left, and-right}
-use Rattle.fields.specs.Word.{fieldAt}
+use Rattle.fields.specs.Word.{fieldAt, putAt}
 use Rattle.fields.specs.Tag.{isDefining}
 use Rattle.fields.specs.Bytes.{wordOfBytes, wordsOfBytes}
 use Rattle.measures.specs.Words.{timeFixed}
@@ -94,9 +94,17 @@ module _ (a b c d : ℕ) (ha : a ≤ 255) (hb : b ≤ 255) (hc : c ≤ 255) (hd 
           let f : a / 8 % 16 ≡ type = eqb-true _ _ (and-right (eqb (a / 128) 1) _ h) in
           eq-eqb (a / 8) (16 + type) (omega arith)
 
-  same-tag : (type : ℕ) → type < 16 → eqb (fieldAt (wordOfBytes d c b a) 3 5) (16 + type) ≡ isDefining type (wordOfBytes a b c d)
-  unfolding isDefining fieldAt
-  same-tag type l = rw (t3, w31, w27) (same-type type l)
+  in-place : (n : ℕ) → eqb ((a / 8 * 2 ^ 3 + 0 % 2 ^ 3) % 2 ^ 32) (8 * n) ≡ eqb (a / 8) n
+  in-place n =
+      let z : (a / 8 * 2 ^ 3 + 0 % 2 ^ 3) % 2 ^ 32 ≡ 8 * (a / 8) = omega arith in
+      rw z
+      (both _ _
+      (λ h. (let e : 8 * (a / 8) ≡ 8 * n = eqb-true _ _ h in eq-eqb (a / 8) n (omega arith)))
+      (λ h. (let e : a / 8 ≡ n = eqb-true _ _ h in eq-eqb (8 * (a / 8)) (8 * n) (omega arith))))
+
+  same-tag : (type : ℕ) → type < 16 → eqb (putAt 0 3 (fieldAt (wordOfBytes d c b a) 3 5)) (8 * (16 + type)) ≡ isDefining type (wordOfBytes a b c d)
+  unfolding isDefining fieldAt putAt
+  same-tag type l = rw (t3, w31, w27) (in-place (16 + type) ∙ same-type type l)
 
   -- a time's zero bits stand beside its type, but for the last
   same-zeros : eqb (a / 8 + 32 * (b % 8)) 24 && eqb (c / 128) 0 ≡ eqb (a / 8) 24 && eqb (b % 8 * 2 + c / 128) 0
@@ -119,7 +127,7 @@ module _ (a b c d : ℕ) (ha : a ≤ 255) (hb : b ≤ 255) (hc : c ≤ 255) (hd 
   unfolding fieldAt timeFixed isDefining
   same-time = rw (t3-10, t23, w31, w27, w15, ← same-type 8 (omega arith)) same-zeros
 
-  same-measure : (eqb (fieldAt (wordOfBytes d c b a) 3 5) 23 || eqb (fieldAt (wordOfBytes d c b a) 3 5) 26)
+  same-measure : (eqb (putAt 0 3 (fieldAt (wordOfBytes d c b a) 3 5)) 184 || eqb (putAt 0 3 (fieldAt (wordOfBytes d c b a) 3 5)) 208)
       || (eqb (fieldAt (wordOfBytes d c b a) 3 8) 24 && eqb (fieldAt (wordOfBytes d c b a) 23 1) 0)
       ≡ measure (wordOfBytes a b c d)
   unfolding measure
@@ -134,7 +142,7 @@ module _ (bytes : List ℕ) (k : ℕ) (fits : (i : ℕ) → getD bytes i 0 ≤ 2
   pub turned-single : eqb (fieldAt (turnedAt bytes k) 5 3) 0 && eqb (fieldAt (turnedAt bytes k) 16 16) 32 ≡ single (getD (wordsOfBytes bytes) k 0)
   turned-single = rw (word-is bytes k within) (same-single _ _ _ _ (fits (4 * k)) (fits (4 * k + 1)) (fits (4 * k + 2)) (fits (4 * k + 3)))
 
-  pub turned-measure : (eqb (fieldAt (turnedAt bytes k) 3 5) 23 || eqb (fieldAt (turnedAt bytes k) 3 5) 26)
+  pub turned-measure : (eqb (putAt 0 3 (fieldAt (turnedAt bytes k) 3 5)) 184 || eqb (putAt 0 3 (fieldAt (turnedAt bytes k) 3 5)) 208)
       || (eqb (fieldAt (turnedAt bytes k) 3 8) 24 && eqb (fieldAt (turnedAt bytes k) 23 1) 0)
       ≡ measure (getD (wordsOfBytes bytes) k 0)
   turned-measure = rw (word-is bytes k within) (same-measure _ _ _ _ (fits (4 * k)) (fits (4 * k + 1)) (fits (4 * k + 2)) (fits (4 * k + 3)))

@@ -10,21 +10,23 @@ use measures::pedestal::PulsePedestal;
 use measures::time::PulseTime;
 
 // Bit 31 and the type: the high bits of the first byte.
-const INTEGRAL: u32 = 16 + PulseIntegral::TAG;
+const INTEGRAL: u32 = 8 * (16 + PulseIntegral::TAG);
 
+const PEDESTAL: u32 = 8 * (16 + PulsePedestal::TAG);
+
+// The same, taken out of the byte.
 const TIME: u32 = 16 + PulseTime::TAG;
 
-const PEDESTAL: u32 = 16 + PulsePedestal::TAG;
-
-// A time's zero bits are the low bits of the second byte, which stand beside its type here, and the high bit of the third.
+// The first byte's high bits are left in their place: no shift is made of them. A time's zero bits are the low bits of the second
+// byte, which stand beside its type here, and the high bit of the third.
 pub(crate) fn measure_at(bytes: &[u8], k: usize) -> bool
     requires { ⌜ 4 * k + 4 ≤ length (now bytes) ⌝ }
     ensures { λ r. ⌜ r ≡ measure (getD (wordsOfBytes (now (bytes .entry))) k 0) ⌝ }
 {
     let word = crate::turned_at(bytes, k);
-    let tag = fields::take(word, 3, 5);
+    let first = fields::put(0, 3, fields::take(word, 3, 5));
     let time = (fields::take(word, 3, 8) == TIME) & (fields::take(word, 23, 1) == 0);
-    (tag == INTEGRAL) | (tag == PEDESTAL) | time
+    (first == INTEGRAL) | (first == PEDESTAL) | time
 }
 
 fn chunk_measured(bytes: &[u8], k: usize) -> bool

@@ -35,7 +35,7 @@ pub(crate) fn plain_chunks(bytes: &[u8], from: usize) -> usize
     ensures { λ r. ⌜ Row plain (now (bytes .entry)) r ⌝ }
 {
     let mut k = from;
-    while k + crate::CHUNK <= bytes.len() / 4 {
+    while crate::CHUNK <= bytes.len() / 4 - k {
         if !chunk_plain(bytes, k) {
             return k;
         }
