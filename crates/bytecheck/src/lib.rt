@@ -23,7 +23,7 @@ pub fn check_bytes(bytes: &[u8]) -> u64
     let mut scan = Scan::start();
     let mut k: usize = 0;
     while k < bytes.len() / 4 {
-        let step = reader::step_at(scan, runs::word_at(bytes, k));
+        let step = reader::step_at(scan, stretches::word_at(bytes, k));
         match step {
             Step::Went(_, after) => {
                 let place = runs::past_items(after, bytes, k + 1);

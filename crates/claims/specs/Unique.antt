@@ -59,7 +59,7 @@ use Rattle.records.proofs as records
 use Rattle.copies.proofs as copies
 use Rattle.numbers.proofs as numbers
 use Rattle.places.proofs as places
-use Rattle.runs.proofs as runs
+use Rattle.stretches.proofs as stretches
 use Rattle.bytecheck.proofs as bytecheck
 use Rattle.host.proofs as host
 use Rattle.hostcheck.proofs as hostcheck
@@ -609,9 +609,23 @@ next-unique κs a r s u v p q = by-equation (p .answer) (q .answer)
 pub pairs-from-unique : Unique rawitems.pairs_from.ended rawitems.pairs_from.Reads.Learnt
 pairs-from-unique κs a r s u v p q = by-equation p q
 
--- runs; how far `past_items` goes is left open
-pub word-at-unique : Unique runs.word_at.ended runs.word_at.Reads.Learnt
+-- stretches
+pub word-at-unique : Unique stretches.word_at.ended stretches.word_at.Reads.Learnt
 word-at-unique κs a r s u v p q = by-equation p q
+
+pub is-single-unique : Unique stretches.is_single.ended stretches.is_single.Reads.Learnt
+is-single-unique κs a r s u v p q = by-equation p q
+
+pub plain-count-unique : Unique stretches.plain_count.ended stretches.plain_count.Reads.Learnt
+plain-count-unique κs a r s u v p q = by-equation p q
+
+pub few-plain-unique : Unique stretches.few_plain.ended stretches.few_plain.Reads.Learnt
+few-plain-unique κs a r s u v p q = by-equation p q
+
+pub measured-count-unique : Unique stretches.measured_count.ended stretches.measured_count.Reads.Learnt
+measured-count-unique κs a r s u v p q = by-equation p q
+
+-- runs: how far `past_items` goes is left open
 
 -- bytecheck
 pub check-bytes-unique : Unique bytecheck.check_bytes.ended bytecheck.check_bytes.Reads.Learnt

@@ -2,14 +2,13 @@
 -- step of one word. Assumes nothing.
 use Prim.Native.Nat.{ℕ, _+_, _-_, _*_, _%_, _≤_, _<_}
 use mathlib.Core.Path.{_≡_}
-use mathlib.Core.Bool.{Bool, true, not, cond, _&&_, _||_}
+use mathlib.Core.Bool.{Bool, not, cond, _&&_}
 use mathlib.Core.List.{List, _∷_}
 use lib.Dec.{eqb}
-use lib.ListN.{length, getD, drop}
+use lib.ListN.{length, drop}
 use Rattle.fields.specs.Word.{read}
 use Rattle.fields.specs.Tag.{isDefining, isContinuation}
-use Rattle.fields.specs.Bytes.{wordOfBytes, wordsOfBytes}
-use Rattle.measures.specs.Words.{timeFixed}
+use Rattle.fields.specs.Bytes.{wordsOfBytes}
 use Rattle.framing.specs.Words.{triggerTimeHighFixed}
 use Rattle.raw.specs.Words.{windowOf, windowFixed, windowWithin, pulseRawFixed}
 use Rattle.scan.specs.declared.Stage.{Stage}
@@ -17,19 +16,7 @@ use Rattle.scan.specs.declared.Stage.the-variants as P
 use Rattle.scan.specs.declared.Scan.{Scan}
 use Rattle.reader.specs.Reader.{checkFrom}
 
--- the word of number k, its bytes joined lowest first
-abbrev pub turnedAt : List ℕ → ℕ → ℕ
-turnedAt bytes k = wordOfBytes (getD bytes (4 * k + 3) 0) (getD bytes (4 * k + 2) 0) (getD bytes (4 * k + 1) 0) (getD bytes (4 * k) 0)
-
 -- ---- words that may be passed
-
--- a pair of one sample: the second flag is set, and its sample is 0
-unfoldable pub single : ℕ → Bool
-single word = eqb (read 31 29 word) 0 && eqb (read 15 0 word) 8192
-
--- an integral, a pedestal, or a time whose bits shown zero are zero
-unfoldable pub measure : ℕ → Bool
-measure word = (isDefining 7 word || isDefining 10 word) || (isDefining 8 word && timeFixed word)
 
 -- a window's header with nothing to refuse
 unfoldable pub windowHead : ℕ → Bool
@@ -47,13 +34,6 @@ headSize low high =
     (cond (not (isContinuation high)) 2
     (cond (triggerTimeHighFixed high && eqb (read 23 0 high % 8) (read 26 24 low)) 3
     0)))
-
--- ---- words in a row
-
--- the words from k to before r are such
-pub record All (p : ℕ → Bool) (words : List ℕ) (k r : ℕ) : Type 0 where
-  pub ahead : k ≤ r
-  pub each : (i : ℕ) → k ≤ i → i < r → p (getD words i 0) ≡ true
 
 -- ---- the check from one word on is the check from a later one on
 

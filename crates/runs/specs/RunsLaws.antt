@@ -4,7 +4,7 @@ use mathlib.Core.Path.{_≡_, refl, sym, ap, ap₂, _∙_}
 use mathlib.Core.Bool.{Bool, true, false, not, cond, _&&_, and-false}
 use mathlib.Core.List.{List, _∷_}
 use native.Mathlib.Omega.{arith}
-use borrow.Author.Tests.{leb-true, lt-leb, eqb-true, ne-eqb}
+use borrow.Author.Tests.{le-leb, lt-leb, eqb-true, ne-eqb}
 use lib.Dec.{eqb, leb}
 use lib.ListN.{length, getD, drop}
 use Rattle.ground.specs.TestsLaws.{and-left, and-right}
@@ -19,7 +19,9 @@ use Rattle.scan.specs.declared.Scan.{Scan}
 use Rattle.reader.specs.Reader.{checkFrom}
 use Rattle.reader.specs.RunLaws.{cons-at}
 use Rattle.raw.specs.Plain.{plain}
-use Rattle.runs.specs.Runs.{single, measure, windowHead, rawHead, headSize, All, standing, Behind, Passed, PassedTo, HeadTo}
+use Rattle.stretches.specs.Stretches.{single, measure, All}
+use Rattle.stretches.specs.StretchesLaws.{all-none, all-one}
+use Rattle.runs.specs.Runs.{windowHead, rawHead, headSize, standing, Behind, Passed, PassedTo, HeadTo}
 use Rattle.runs.specs.StepsLaws.{measure-passed, window-passed, raw-passed, event-passed, clock-passed, high-passed, plain-passed, plain-raw, single-passed, single-raw, raw-end, timed-end, opened-end}
 
 -- nothing passed, and one run behind another
@@ -111,26 +113,36 @@ even-or-odd : (t : ℕ) → eqb t 0 && eqb t 1 ≡ false
 even-or-odd zero = refl
 even-or-odd (suc t) = rw (ne-eqb (suc t) 0 (omega arith))
 
+-- its width is asked for by itself
+window-head : (word width : ℕ) → isDefining 4 word && windowFixed word ≡ true → width ≡ read 11 0 word → 1 ≤ width → width ≤ 500 → windowHead word ≡ true
+unfolding windowHead windowWithin windowOf mostSamples
+window-head word width d w l h = rw (d, ← w, le-leb 1 width l, le-leb width 500 h)
+
+odd-single : {words : List ℕ} (m t : ℕ) → t < 2 → (t ≡ 1 → single (getD words m 0) ≡ true) → All single words m (m + t)
+odd-single m zero h f = let z : m + 0 ≡ m = omega arith in rw z (all-none m)
+odd-single m (suc zero) h f = all-one (f refl)
+odd-single m (suc (suc t)) h f = absurd (omega arith)
+
 -- a header, its pairs of two samples, and the last of an odd width
-pub window-run : {words : List ℕ} {k : ℕ} (width : ℕ) → windowHead (getD words k 0) ≡ true → width ≡ read 11 0 (getD words k 0)
-    → All plain words (k + 1) (k + 1 + width / 2) → All single words (k + 1 + width / 2) (k + 1 + width / 2 + width % 2) → k + 1 + width / 2 + width % 2 ≤ length words
-    → Passed words k (k + 1 + width / 2 + width % 2)
-unfolding windowHead windowWithin windowOf pairsOf
-window-run {words} {k} width d w a b l =
+pub window-run : {words : List ℕ} {k n : ℕ} (width : ℕ) → isDefining 4 (getD words k 0) && windowFixed (getD words k 0) ≡ true → width ≡ read 11 0 (getD words k 0)
+    → 1 ≤ width → width ≤ 500 → All plain words (k + 1) (k + 1 + n) → n ≡ width / 2 → (width % 2 ≡ 1 → single (getD words (k + 1 + width / 2) 0) ≡ true)
+    → k + 1 + width / 2 + width % 2 ≤ length words → Passed words k (k + 1 + width / 2 + width % 2)
+unfolding pairsOf
+window-run {words} {k} width d w some most pairs whole odd l =
     let n = width / 2 in
     let t = width % 2 in
-    let some : 1 ≤ width = rw w (leb-true 1 _ (and-left _ (leb (read 11 0 (getD words k 0)) mostSamples) (and-right (isDefining 4 (getD words k 0) && windowFixed (getD words k 0)) _ d))) in
+    let a : All plain words (k + 1) (k + 1 + n) = rw whole at pairs in
     let half : (width + 1) / 2 ≡ width / 2 + width % 2 = omega arith in
     record {
       ahead = omega arith;
       same = λ place slot left h.
           (let z : place + 1 + n + t ≡ place + (k + 1 + n + t - k) = omega arith in
           at-word words k (standing place slot left P.Items) (omega arith)
-          ∙ window-passed place slot left (drop (k + 1) words) (omega arith) (getD words k 0) d
+          ∙ window-passed place slot left (drop (k + 1) words) (omega arith) (getD words k 0) (window-head (getD words k 0) width d w some most)
           ∙ ap (λ (p : Stage). checkFrom (standing (place + 1) slot left p) (drop (k + 1) words))
           (ap (λ (x : ℕ). P.Window (pairsOf x) (eqb (x % 2) 1)) (sym w) ∙ ap (λ (x : ℕ). P.Window x (eqb t 1)) half ∙ to-come (n + t) (eqb t 1) (omega arith))
           ∙ pairs-passed words t (eqb t 1) (even-or-odd t) n (k + 1) a (omega arith) (place + 1) slot left (omega arith)
-          ∙ end-passed words t (omega arith) (k + 1 + n) b l (place + 1 + n) slot left (omega arith)
+          ∙ end-passed words t (omega arith) (k + 1 + n) (odd-single (k + 1 + n) t (omega arith) odd) l (place + 1 + n) slot left (omega arith)
           ∙ ap (λ (m : ℕ). checkFrom (standing m slot left P.Items) (drop (k + 1 + n + t) words)) z);
     }
 

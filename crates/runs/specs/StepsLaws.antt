@@ -35,7 +35,8 @@ use Rattle.reader.specs.RunLaws.{check-at}
 use Rattle.reader.specs.declared.Step.{Step}
 use Rattle.raw.specs.Plain.{plain}
 use Rattle.raw.specs.PlainLaws.{plain-bits}
-use Rattle.runs.specs.Runs.{single, measure, windowHead, rawHead, standing}
+use Rattle.stretches.specs.Stretches.{single, measure}
+use Rattle.runs.specs.Runs.{windowHead, rawHead, standing}
 
 onward-is : (place : ℕ) → place < 4194303 → onward place ≡ place + 1
 unfolding onward

@@ -5,22 +5,17 @@ ghost use mathlib.Core.Bool.{true};
 ghost use Prim.Native.Nat.{_+_, _*_, _≤_, _<_, min};
 ghost use lib.ListN.{length, getD};
 ghost use Rattle.fields.specs.Bytes.{wordsOfBytes};
-ghost use Rattle.runs.specs.Runs.{turnedAt, Behind, Passed, Onward};
+ghost use Rattle.runs.specs.Runs.{Behind, Passed, Onward};
 use framing::trailer::BlockTrailer;
 use framing::trigger_time::TriggerTime;
 use scan::Scan;
 use scan::Stage;
 
 mod events;
-mod measured;
-mod plain;
 mod sets;
 
 // No word before the trailer may stand here.
 const PLACE_MAX: u32 = BlockTrailer::WORDS_MAX;
-
-// So many words are tested at once.
-const CHUNK: usize = 8;
 
 // A scan, and the number of its next word.
 pub struct Place {
@@ -28,32 +23,14 @@ pub struct Place {
     pub next: usize,
 }
 
-// The word of that number; past the end 0.
-pub fn word_at(bytes: &[u8], k: usize) -> u32
-    ensures { λ r. ⌜ r ≡ getD (wordsOfBytes (now (bytes .entry))) k 0 ⌝ }
-{
-    if k < bytes.len() / 4 {
-        joined_at(bytes, k)
-    } else {
-        0
-    }
-}
-
+// The length of what is lent is known where it is asked for: no test is left of it.
 fn joined_at(bytes: &[u8], k: usize) -> u32
     requires { ⌜ 4 * k + 4 ≤ length (now bytes) ⌝ }
     ensures { λ r. ⌜ r ≡ getD (wordsOfBytes (now (bytes .entry))) k 0 ⌝ }
 {
-    let i = 4 * k;
-    fields::of_bytes(bytes[i], bytes[i + 1], bytes[i + 2], bytes[i + 3])
-}
-
-// The bytes joined lowest first, as the machine joins them: one load, and nothing is turned round.
-fn turned_at(bytes: &[u8], k: usize) -> u32
-    requires { ⌜ 4 * k + 4 ≤ length (now bytes) ⌝ }
-    ensures { λ r. ⌜ r ≡ turnedAt (now (bytes .entry)) k ⌝ }
-{
-    let i = 4 * k;
-    fields::of_bytes(bytes[i + 3], bytes[i + 2], bytes[i + 1], bytes[i])
+    let from = 4 * k;
+    let to = from + 4;
+    stretches::word_at(&bytes[from..to], 0)
 }
 
 fn less(x: usize, y: usize) -> usize
@@ -74,10 +51,9 @@ fn item_end(bytes: &[u8], k: usize, end: usize) -> usize
     if sets::is_raw(word) {
         return sets::raw_end(bytes, k, end);
     }
-    if measured::measure_at(bytes, k) {
-        return measured::measured_end(bytes, k + 1, end);
-    }
-    k
+    let from = 4 * k;
+    let to = 4 * end;
+    k + stretches::measured_count(&bytes[from..to])
 }
 
 fn items_end(bytes: &[u8], from: usize, end: usize) -> usize
@@ -118,7 +94,7 @@ pub fn past_items(scan: Scan, bytes: &[u8], k: usize) -> Place
     ensures { λ r. ⌜ Onward (now (bytes .entry)) scan k (r .scan) (r .next) ⌝ }
 {
     let count = bytes.len() / 4;
-    if is_behind(scan, word_at(bytes, k)) {
+    if is_behind(scan, stretches::word_at(bytes, k)) {
         if k < count {
             if scan.place < PLACE_MAX {
                 let room = less(count - k, (PLACE_MAX - scan.place) as usize);

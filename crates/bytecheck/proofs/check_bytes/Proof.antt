@@ -10,7 +10,7 @@ use Rattle.scan.specs.After.{startOf}
 use Rattle.reader.specs.RunLaws.{end-by}
 use Rattle.scan.specs.declared.Scan.{Scan}
 use Rattle.reader.specs.declared.Step.{Step}
-use Rattle.runs.specs.WordsLaws.{words-count}
+use Rattle.stretches.specs.WordsLaws.{words-count}
 use Rattle.bytecheck.specs.CheckLaws.{run-at, out-number, checked}
 use Rattle.fields.specs.Bytes.{wordsOfBytes}
 use Rattle.bytecheck.specs.Check.{checkNumber}

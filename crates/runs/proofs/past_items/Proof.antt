@@ -2,7 +2,7 @@
 use mathlib.Core.Path.{refl}
 use native.Mathlib.Omega.{arith}
 use borrow.Author.Needs.{needs}
-use Rattle.runs.specs.WordsLaws.{words-count}
+use Rattle.stretches.specs.WordsLaws.{words-count}
 use Rattle.runs.specs.RunsLaws.{onward-by}
 use Rattle.runs.proofs.past_items.Statement.{statement}
 use Rattle.runs.proofs.past_items.Tie as tie

@@ -5,7 +5,7 @@ use borrow.Author.Needs.{needs}
 use borrow.Author.Tests.{eqb-true}
 use Rattle.ground.specs.TestsLaws.{and-left, and-right}
 use Rattle.fields.specs.Bytes.{wordsOfBytes}
-use Rattle.runs.specs.WordsLaws.{words-count}
+use Rattle.stretches.specs.WordsLaws.{words-count}
 use Rattle.runs.specs.RunsLaws.{head-none, head-run}
 use Rattle.runs.proofs.events.head_end.Statement.{statement}
 use Rattle.runs.proofs.events.head_end.Tie as tie

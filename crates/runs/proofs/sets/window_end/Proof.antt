@@ -1,7 +1,11 @@
 -- `runs::sets::window_end` meets its contract.
+use Prim.Native.Nat.{_+_, _-_, _*_, _/_}
+use mathlib.Core.Path.{refl, sym, _∙_}
 use native.Mathlib.Omega.{arith}
 use borrow.Author.Needs.{needs}
-use Rattle.runs.specs.WordsLaws.{words-count}
+use Rattle.raw.specs.Plain.{plain}
+use Rattle.stretches.specs.WordsLaws.{words-count}
+use Rattle.stretches.specs.StretchesLaws.{Counted, counted}
 use Rattle.runs.specs.RunsLaws.{passed-none, window-run}
 use Rattle.runs.proofs.sets.window_end.Statement.{statement}
 use Rattle.runs.proofs.sets.window_end.Tie as tie
@@ -13,17 +17,38 @@ returns-2 : tie.Need-returns-2
 returns-2 c = (omega arith, passed-none _ _)
 
 returns-3 : tie.Need-returns-3
-returns-3 c =
-    let a = c .before .before .before .before .before .before .args in
-    let pre = c .before .before .before .before .before .before .pre in (
-      omega arith,
-      window-run (a .width) (pre .1 .0) (pre .1 .1) (rw (c .before .before .if2 .left) at (c .before .before .before .plain-end .ensures .1))
-          (rw (c .if3 .taken) at (c .before .single-end .ensures .1))
-          (omega (arith, words-count (a .bytes .now))),
-    )
+returns-3 c = (omega arith, passed-none _ _)
 
 returns-4 : tie.Need-returns-4
 returns-4 c = (omega arith, passed-none _ _)
 
+-- what was counted
+pairs : (c : tie.After-plain-count) →
+    let a = c .before .before .before .before .before .before .args in
+    Counted plain (a .bytes .now) (a .k + 1) (4 * (a .k + 1 + a .width / 2) - 4 * (a .k + 1)) (c .plain-count .result)
+pairs c = let a = c .before .before .before .before .before .before .args in counted (a .bytes .now) (a .k + 1) refl (omega arith) (c .plain-count .ensures)
+
+returns-5 : tie.Need-returns-5
+returns-5 c =
+    let start = c .before .before .before .before .before .before .before .before in
+    let n = pairs (c .before .before) in (
+      omega arith,
+      window-run (start .args .width) (start .pre .1 .0) (start .pre .1 .1) (omega arith) (omega arith) (n .all) (omega (arith, n .within)) (λ h. absurd (omega arith))
+          (omega (arith, words-count (start .args .bytes .now))),
+    )
+
+returns-6 : tie.Need-returns-6
+returns-6 c =
+    let start = c .before .before .before .before .before .before .before .before .before .before in
+    let n = pairs (c .before .before .before .before) in (
+      omega arith,
+      window-run (start .args .width) (start .pre .1 .0) (start .pre .1 .1) (omega arith) (omega arith) (n .all) (omega (arith, n .within))
+          (λ h. sym (c .before .single-at .ensures) ∙ c .if6 .taken)
+          (omega (arith, words-count (start .args .bytes .now))),
+    )
+
+returns-7 : tie.Need-returns-7
+returns-7 c = (omega arith, passed-none _ _)
+
 pub window-end-spec : {M : Type 1} → statement M
-window-end-spec = tie.close (tie.spec (λ c. search needs) (λ c. search needs) (λ c. search needs) returns (λ c. search needs) (λ c κs. search needs) returns-2 (λ c κs. search needs) returns-3 returns-4)
+window-end-spec = tie.close (tie.spec returns returns-2 (λ c. search needs) (λ c. search needs) (λ c. search needs) returns-3 (λ c. search needs) (λ c. search needs) (λ c. search needs) (λ c. search needs) (λ c. search needs) (λ c. search needs) (λ c κs. search needs) returns-4 returns-5 (λ c κs. search needs) returns-6 returns-7)

@@ -1,0 +1,4 @@
+pub mod Stretches
+pub mod WordsLaws
+pub mod BitsLaws
+pub mod StretchesLaws
