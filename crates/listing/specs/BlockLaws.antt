@@ -6,7 +6,7 @@ use mathlib.Core.List.{List, [], _∷_, _++_, append-assoc, append-nil}
 use native.Mathlib.Omega.{arith}
 use native.Mathlib.Nat.{zero-add, add-zero}
 use lib.Dec.{eqb}
-use lib.ListN.{length, take, drop, length-drop}
+use lib.ListN.{length, take, drop, getD, length-drop}
 use lib.Seq.{drop-drop, take-all}
 use Rattle.fields.specs.Bytes.{wordsOfBytes}
 use Rattle.fields.specs.BytesLaws.{words-none, words-some, words-drop, words-le}
@@ -27,6 +27,8 @@ use Rattle.text.specs.LineLaws.{text-append, say-one, say-both}
 use Rattle.listing.specs.declared.Block.{Block}
 use Rattle.lines.specs.Lines.{refusedLine, fillLines}
 use Rattle.entries.specs.Entries.{recordLines, fillerIn}
+use Rattle.entries.specs.AheadLaws.{read-at}
+use Rattle.glance.specs.TurnLaws.{Went}
 use Rattle.listing.specs.Listing.{itemLines, fillersIn, isWhole, outLines, blockLines, linesFrom}
 use Rattle.listing.specs.Says.{BlockSays, ReadingSays}
 
@@ -102,18 +104,6 @@ module _ {text₀ : List ℕ} {at : ℕ} {r : Reading} {text : List ℕ} {k n i 
       lines : restLines n (then x rest) ≡ one ++ restLines (n + m) rest
       lines = append-assoc one (itemLines (rest .items)) _ ∙ ap (λ (c : ℕ). one ++ (itemLines (rest .items) ++ (fillLines c ++ outLines (rest .out)))) count
 
-  -- the record of the word at i is put, by the part of the bytes behind it
-  pub left-took : (bytes : List ℕ) (t : Scan) {x : Item} {text′ : List ℕ} {k′ m : ℕ} → Left text₀ at r text k n i (then x (readFrom t (wordsOfBytes (drop (i + 4) bytes))))
-      → _≡_ {A = Page} (text′, k′) (put (text, k) (textOf (recordLines x ((readFrom t (wordsOfBytes (take (length bytes - (i + 4)) (drop (i + 4) bytes)))) .items)))) → m ≡ fillerIn x
-      → Left text₀ at r text′ k′ (n + m) (i + 4) (readFrom t (wordsOfBytes (drop (i + 4) bytes)))
-  left-took bytes t {x} l p e =
-      left-less l (p ∙ ap (λ (b : List ℕ). put (text, k) (textOf (recordLines x ((readFrom t (wordsOfBytes b)) .items)))) (tail-is bytes (i + 4))) e
-
-  -- a record of one line, and no filler, is put
-  pub left-line : {x : Item} {rest : Reading} {text′ : List ℕ} {k′ : ℕ} (l : Line) → Left text₀ at r text k n i (then x rest)
-      → _≡_ {A = Page} (text′, k′) (put (text, k) (lineText l)) → recordLines x (rest .items) ≡ l ∷ [] → fillerIn x ≡ 0 → Left text₀ at r text′ k′ n (i + 4) rest
-  left-line l h p e f = rw (add-zero n) at (left-less h (say-one _ _ _ l p e) (sym f))
-
   -- nothing is left but the block's end
   pub left-none : {o : Out} {b : Block} {text′ : List ℕ} → Left text₀ at r text k n i (just o) → BlockSays text k (fillLines n ++ outLines o) i o b text′ → ReadingSays text₀ at r b text′
   unfolding itemLines fillersIn
@@ -123,6 +113,21 @@ module _ {text₀ : List ℕ} {at : ℕ} {r : Reading} {text : List ℕ} {k n i 
         taken = s .taken ∙ omega (arith, l .taken);
         ended = s .ended ∙ ap isWhole (sym (l .ended));
       }
+
+  -- the word at i, as it is judged
+  module _ (bytes : List ℕ) (s : Scan) {word : ℕ} (l : Left text₀ at r text k n i (readFrom s (wordsOfBytes (drop i bytes)))) (h : i + 4 ≤ length bytes) (e : word ≡ getD (wordsOfBytes (take (length bytes - i) (drop i bytes))) 0 0) where
+    left-word : {j : Judged} → judgeAt s word ≡ j → Left text₀ at r text k n i (onJudged j (s .place) (λ t. readFrom t (wordsOfBytes (drop (i + 4) bytes))))
+    left-word g = left-is l (read-at bytes i s h (e ∙ ap (λ (b : List ℕ). getD (wordsOfBytes b) 0 0) (tail-is bytes i)) refl g)
+
+    -- its record is put, by the part of the bytes behind it
+    pub left-on : {text′ : List ℕ} {k′ m : ℕ} {t : Scan} → Went s word (take (length bytes - (i + 4)) (drop (i + 4) bytes)) text k k′ t m text′
+        → Left text₀ at r text′ k′ (n + m) (i + 4) (readFrom t (wordsOfBytes (drop (i + 4) bytes)))
+    left-on {t} w =
+        left-less (left-word (sym (w .judged))) (w .page ∙ ap (λ (b : List ℕ). put (text, k) (textOf (recordLines (w .item) ((readFrom t (wordsOfBytes b)) .items)))) (tail-is bytes (i + 4))) (w .filler)
+
+    -- the block ends before it, with the text as it is
+    pub left-last : {o : Out} {b : Block} {text′ text″ : List ℕ} → (text′ ≡ text) × ((on : Scan → Reading) → onJudged (judgeAt s word) (s .place) on ≡ just o) → BlockSays text′ k (fillLines n ++ outLines o) i o b text″ → ReadingSays text₀ at r b text″
+    left-last {o} {b} {text″} d says = left-none (left-is (left-word refl) (d .1 _)) (rw (d .0) at says)
 
 -- ---- a block's end, put by its number
 

@@ -9,12 +9,9 @@ ghost use Rattle.text.specs.Line.{textOf};
 ghost use Rattle.lines.specs.Lines.{fillLines};
 ghost use Rattle.listing.specs.Listing.{outLines, linesFrom, linesUnless, listingOf, longListingOf};
 ghost use Rattle.listing.specs.Says.{BlockSays, ReadingSays, ListSays, LongSays};
-use quick::Quick;
-use reader::Judged;
+use glance::Turn;
 use refusals::Refusal;
 use scan::Scan;
-
-mod quick;
 
 // The most bytes of an input of the lister.
 pub const LONGEST: usize = 65536;
@@ -64,26 +61,17 @@ fn list_block(bytes: &[u8], text: &mut [u8], from: usize) -> Block
     let mut fillers: u64 = 0;
     while 4 <= bytes.len() - next {
         let word = entries::first_word(&bytes[next..]);
-        let glance = quick::glance(scan, word);
-        if let Quick::Took(kind, after) = glance {
-            at = quick::put_quick(text, at, kind, word);
-            next += 4;
-            scan = after;
-            continue;
-        }
-        let judged = reader::judge_at(scan, word);
-        match judged {
-            Judged::Took(item, after) => {
-                next += 4;
-                at = entries::list_item(text, at, item, &bytes[next..], after);
-                fillers += entries::filler_in(item);
+        let behind = next + 4;
+        let turn = glance::list_word(text, at, scan, word, &bytes[behind..]);
+        match turn {
+            Turn::On(to, after, filler) => {
+                at = to;
                 scan = after;
+                fillers += filler;
+                next = behind;
             }
-            Judged::Refused(number, place) => {
+            Turn::Last(number, place) => {
                 return stop(text, at, fillers, number, place, next);
-            }
-            Judged::Ended => {
-                return stop(text, at, fillers, 0, scan.place, next);
             }
         }
     }

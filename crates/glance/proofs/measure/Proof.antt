@@ -1,9 +1,9 @@
--- `listing::quick::measure` meets its contract: what the reader would judge.
+-- `glance::measure` meets its contract: what the reader would judge.
 use mathlib.Core.Path.{sym, _∙_}
-use Rattle.listing.specs.QuickLaws.{integral-quick, pedestal-quick, time-quick}
+use Rattle.glance.specs.QuickLaws.{integral-quick, pedestal-quick, time-quick}
 use borrow.Author.Needs.{needs}
-use Rattle.listing.proofs.quick.measure.Statement.{statement}
-use Rattle.listing.proofs.quick.measure.Tie as tie
+use Rattle.glance.proofs.measure.Statement.{statement}
+use Rattle.glance.proofs.measure.Tie as tie
 
 returns : tie.Need-returns
 returns c =

@@ -1,12 +1,12 @@
--- `listing::quick::glance` meets its contract: what the reader would judge.
+-- `glance::glance` meets its contract: what the reader would judge.
 use mathlib.Core.Path.{sym, _∙_}
 use native.Mathlib.Omega.{arith}
 use borrow.Author.Tests.{ltb-true, not-false}
 use Rattle.ground.specs.TestsLaws.{and-left}
-use Rattle.listing.specs.QuickLaws.{window-quick, raw-quick}
+use Rattle.glance.specs.QuickLaws.{window-quick, raw-quick}
 use borrow.Author.Needs.{needs}
-use Rattle.listing.proofs.quick.glance.Statement.{statement}
-use Rattle.listing.proofs.quick.glance.Tie as tie
+use Rattle.glance.proofs.glance.Statement.{statement}
+use Rattle.glance.proofs.glance.Tie as tie
 
 measure-requires : tie.Need-measure-requires
 measure-requires c κs = (c .enum-told .given .1, sym (c .before .before .before .at-limit .ensures) ∙ c .before .before .if1 .left)

@@ -10,10 +10,10 @@ use Rattle.reader.specs.declared.Judged.the-variants as J
 use Rattle.reader.specs.Reader.{judgeAt}
 use Rattle.text.specs.Line.{Line}
 use Rattle.lines.specs.Lines.{pairLine, integralLine, timeLine, pedLine}
-use Rattle.listing.specs.declared.quick.Kind.{Kind}
-use Rattle.listing.specs.declared.quick.Kind.the-variants as K
-use Rattle.listing.specs.declared.quick.Quick.{Quick}
-use Rattle.listing.specs.declared.quick.Quick.the-variants as Q
+use Rattle.glance.specs.declared.Kind.{Kind}
+use Rattle.glance.specs.declared.Kind.the-variants as K
+use Rattle.glance.specs.declared.Quick.{Quick}
+use Rattle.glance.specs.declared.Quick.the-variants as Q
 
 abbrev pub quickItem : Kind → ℕ → Item
 quickItem K.Pair word = I.Pair (pairOf word)

@@ -1,8 +1,8 @@
--- `listing::quick::is_plain` meets its contract.
+-- `glance::is_plain` meets its contract.
 use Rattle.raw.specs.Plain.{plain}
 use borrow.Author.Needs.{needs}
-use Rattle.listing.proofs.quick.is_plain.Statement.{statement}
-use Rattle.listing.proofs.quick.is_plain.Tie as tie
+use Rattle.glance.proofs.is_plain.Statement.{statement}
+use Rattle.glance.proofs.is_plain.Tie as tie
 
 returns : tie.Need-returns
 unfolding plain

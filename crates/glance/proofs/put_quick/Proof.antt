@@ -1,7 +1,7 @@
--- `listing::quick::put_quick` meets its contract: each kind's line.
+-- `glance::put_quick` meets its contract: each kind's line.
 use borrow.Author.Needs.{needs}
-use Rattle.listing.proofs.quick.put_quick.Statement.{statement}
-use Rattle.listing.proofs.quick.put_quick.Tie as tie
+use Rattle.glance.proofs.put_quick.Statement.{statement}
+use Rattle.glance.proofs.put_quick.Tie as tie
 
 returns : tie.Need-returns
 returns c = rw (c .before .before .before .before .before .enum-told .given .1) (rw (c .before .before .before .take-apart .ensures) at (c .before .before .put-pair .ensures))

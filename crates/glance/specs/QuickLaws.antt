@@ -31,11 +31,11 @@ use Rattle.reader.specs.Reader.{stepAt, judgeAt}
 use Rattle.reader.specs.ReaderLaws.{step-form, judge-by}
 use Rattle.entries.specs.Entries.{recordLines, fillerIn}
 use Rattle.text.specs.Line.{Line}
-use Rattle.listing.specs.declared.quick.Kind.{Kind}
-use Rattle.listing.specs.declared.quick.Kind.the-variants as K
+use Rattle.glance.specs.declared.Kind.{Kind}
+use Rattle.glance.specs.declared.Kind.the-variants as K
 use Rattle.raw.specs.Plain.{plain}
 use Rattle.raw.specs.PlainLaws.{plain-bits}
-use Rattle.listing.specs.Quick.{quickItem, quickLine}
+use Rattle.glance.specs.Quick.{quickItem, quickLine}
 
 -- its record has that line, whatever follows, and is no filler
 pub quick-line : (kind : Kind) (word : ℕ) (behind : List Item) → recordLines (quickItem kind word) behind ≡ quickLine kind word ∷ []
