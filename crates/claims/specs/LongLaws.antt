@@ -13,7 +13,8 @@ use Rattle.reader.specs.Reader.{Whole, Reading}
 use Rattle.text.specs.Line.{Line, textOf}
 use Rattle.text.specs.LineLaws.{text-append}
 use Rattle.lines.specs.Lines.{refusedLine}
-use Rattle.listing.specs.Listing.{blockLines, blockThen, linesFrom, cutWrong, linesUnless, listingOf, longListingOf}
+use Rattle.blocklines.specs.BlockLines.{blockLines}
+use Rattle.listing.specs.Listing.{blockThen, linesFrom, cutWrong, linesUnless, listingOf, longListingOf}
 use Rattle.layout.specs.NothingLost.{AllWords}
 use Rattle.layout.specs.Grammar.{Tree, block, empty, recordsOf, Spelt, SpeltTree, Ends}
 use Rattle.layout.specs.ExactLaws.{spelt-length, alone, followed}

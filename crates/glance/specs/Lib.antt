@@ -1,5 +1,3 @@
--- One word listed, and the words that are known at a glance.
-pub mod Turn
-pub mod TurnLaws
+-- The words that the lister knows at a glance, and their laws.
 pub mod Quick
 pub mod QuickLaws

@@ -1,27 +1,21 @@
-// One word of a listing. The words that most blocks are full of, pairs of two samples inside a raw item and measures one after
-// another, are known at a glance and have one line each; any other word is left to the reader.
+// The words that most blocks are full of: pairs of two samples inside a raw item, and measures one after another. They are
+// known at a glance, and have one line each; any other word is left to the reader.
 ghost use mathlib.Core.Path.{_≡_};
-ghost use mathlib.Core.Bool.{false};
-ghost use Rattle.questions.specs.Questions.{atLimit};
 ghost use Rattle.text.specs.Page.{put};
 ghost use Rattle.text.specs.Line.{lineText};
 ghost use Rattle.raw.specs.Plain.{plain};
-ghost use Rattle.reader.specs.Reader.{judgeAt};
-ghost use Rattle.glance.specs.Quick.{quickLine, QuickSays};
-ghost use Rattle.glance.specs.Turn.{turnOf};
+ghost use Rattle.glance.specs.Quick.{behindAt, measureOf, quickBy, quickOf, quickLine, knownOf};
 use measures::integral::PulseIntegral;
 use measures::pedestal::PulsePedestal;
 use measures::time::PulseTime;
 use raw::pair::SamplePair;
-use reader::Judged;
 use scan::Scan;
 use scan::Stage;
 
-// Behind a word: the next place of the text, the scan, the fillers that it was. Or the block ends before it: the number of the
-// refusal, 0 for none, and its place.
-pub enum Turn {
-    On(usize, Scan, u64),
-    Last(u32, u32),
+// Behind a word that is known: the next place of the text, and the scan. Or another word.
+pub enum Known {
+    Took(usize, Scan),
+    Other,
 }
 
 enum Kind {
@@ -46,8 +40,7 @@ fn is_plain(word: u32) -> bool
 
 // Behind an item of an event.
 fn measure(scan: Scan, word: u32) -> Quick
-    requires { ⌜ (scan .stage ≡ Stage.Items) × (atLimit scan ≡ false) ⌝ }
-    ensures { λ r. ⌜ QuickSays scan word r ⌝ }
+    ensures { λ r. ⌜ r ≡ measureOf (behindAt scan Stage.Items) word ⌝ }
 {
     let after = scan::after::moved(scan, Stage::Items);
     if PulseIntegral::is(word) {
@@ -62,14 +55,17 @@ fn measure(scan: Scan, word: u32) -> Quick
     Quick::Other
 }
 
-fn glance(scan: Scan, word: u32) -> Quick
-    ensures { λ r. ⌜ QuickSays scan word r ⌝ }
+// A pair that is a window's last is left to the reader.
+fn in_stage(scan: Scan, word: u32) -> Quick
+    ensures { λ r. ⌜ r ≡ quickBy scan (scan .stage) word ⌝ }
 {
-    if questions::at_limit(scan) {
-        return Quick::Other;
-    }
     let p = scan.stage;
     match p {
+        Stage::Start => Quick::Other,
+        Stage::Head => Quick::Other,
+        Stage::Front => Quick::Other,
+        Stage::Opened => Quick::Other,
+        Stage::Timed(_) => Quick::Other,
         Stage::Items => measure(scan, word),
         Stage::Window(n, odd) => {
             if !((1 < n) & is_plain(word)) {
@@ -89,8 +85,17 @@ fn glance(scan: Scan, word: u32) -> Quick
                 scan::after::moved(scan, Stage::Raw(n - 1, true)),
             )
         }
-        _ => Quick::Other,
+        Stage::Tail(_) => Quick::Other,
     }
+}
+
+fn glance(scan: Scan, word: u32) -> Quick
+    ensures { λ r. ⌜ r ≡ quickOf scan word ⌝ }
+{
+    if questions::at_limit(scan) {
+        return Quick::Other;
+    }
+    in_stage(scan, word)
 }
 
 fn put_quick(text: &mut [u8], at: usize, kind: Kind, word: u32) -> usize
@@ -104,32 +109,13 @@ fn put_quick(text: &mut [u8], at: usize, kind: Kind, word: u32) -> usize
     }
 }
 
-// Any word, by the reader.
-fn list_judged(text: &mut [u8], at: usize, scan: Scan, word: u32, behind: &[u8]) -> Turn
-    ensures { λ r. ⌜ (now (text .exit), r) ≡ turnOf (now (text .entry), at) (judgeAt scan word) (scan .place) (now (behind .entry)) ⌝ }
-{
-    let judged = reader::judge_at(scan, word);
-    match judged {
-        Judged::Took(item, after) => {
-            let fillers = entries::filler_in(item);
-            Turn::On(
-                entries::list_item(text, at, item, behind, after),
-                after,
-                fillers,
-            )
-        }
-        Judged::Refused(number, place) => Turn::Last(number, place),
-        Judged::Ended => Turn::Last(0, scan.place),
-    }
-}
-
-// The lines of one word; `behind` are the bytes behind it.
-pub fn list_word(text: &mut [u8], at: usize, scan: Scan, word: u32, behind: &[u8]) -> Turn
-    ensures { λ r. ⌜ (now (text .exit), r) ≡ turnOf (now (text .entry), at) (judgeAt scan word) (scan .place) (now (behind .entry)) ⌝ }
+// The line of a word that is known.
+pub fn put_known(text: &mut [u8], at: usize, scan: Scan, word: u32) -> Known
+    ensures { λ r. ⌜ (now (text .exit), r) ≡ knownOf (now (text .entry), at) (quickOf scan word) word ⌝ }
 {
     let quick = glance(scan, word);
-    if let Quick::Took(kind, after) = quick {
-        return Turn::On(put_quick(text, at, kind, word), after, 0);
+    match quick {
+        Quick::Took(kind, after) => Known::Took(put_quick(text, at, kind, word), after),
+        Quick::Other => Known::Other,
     }
-    list_judged(text, at, scan, word, behind)
 }

@@ -40,9 +40,10 @@ use Rattle.listing.specs.declared.Listed.{Listed}
 use Rattle.listing.specs.declared.Listed.the-variants as L
 use Rattle.lines.specs.Lines.{blockName, setupName, eventName, clockName, clock27Name, windowName, pulseName, pairName, integralName, timeName, pedName, endName, fillName, emptyName, refusedName, refusedLine, fillLines, clockLine}
 use Rattle.entries.specs.Entries.{highIn, secondOf, recordLines, fillerIn}
-use Rattle.listing.specs.Listing.{itemLines, fillersIn, isWhole, outLines, blockLines, linesFrom, cutWrong, lengthWrong, linesUnless, listingOf, longListingOf}
+use Rattle.blocklines.specs.BlockLines.{itemLines, fillersIn, isWhole, outLines, blockLines}
+use Rattle.listing.specs.Listing.{linesFrom, cutWrong, lengthWrong, linesUnless, listingOf, longListingOf}
 use Rattle.listing.specs.Says.{listedNumber, counted, ListSays}
-use Rattle.listing.specs.BlockLaws.{whole-some}
+use Rattle.blocklines.specs.BlockLaws.{whole-some}
 
 -- ---- one record
 

@@ -1,24 +1,27 @@
--- `glance::measure` meets its contract: what the reader would judge.
-use mathlib.Core.Path.{sym, _∙_}
-use Rattle.glance.specs.QuickLaws.{integral-quick, pedestal-quick, time-quick}
+-- `glance::measure` meets its contract: the tests in their order.
+use mathlib.Core.Path.{sym, ap, _∙_}
+use Rattle.glance.specs.declared.Kind.the-variants as K
+use Rattle.glance.specs.declared.Quick.the-variants as Q
 use borrow.Author.Needs.{needs}
 use Rattle.glance.proofs.measure.Statement.{statement}
 use Rattle.glance.proofs.measure.Tie as tie
 
 returns : tie.Need-returns
-returns c =
-    let start = c .before .before .before in
-    rw (c .before .before .moved .ensures) (integral-quick (start .args .scan) _ (start .pre .1) (start .pre .0) (sym (c .before .is .ensures) ∙ c .if1 .taken))
+returns c = rw (sym (c .before .is .ensures) ∙ c .if1 .taken) (ap (Q.Took K.Integral) (c .before .before .moved .ensures))
 
 returns-2 : tie.Need-returns-2
 returns-2 c =
-    let start = c .before .before .before .before .before in
-    rw (c .before .before .before .before .moved .ensures) (pedestal-quick (start .args .scan) _ (start .pre .1) (start .pre .0) (sym (c .before .is2 .ensures) ∙ c .if2 .taken))
+    rw (sym (c .before .before .before .is .ensures) ∙ c .before .before .if1 .left, sym (c .before .is2 .ensures) ∙ c .if2 .taken)
+    (ap (Q.Took K.Pedestal) (c .before .before .before .before .moved .ensures))
 
 returns-3 : tie.Need-returns-3
 returns-3 c =
-    let start = c .before .before .before .before .before .before .before .before in
-    rw (c .before .before .before .before .before .before .before .moved .ensures) (time-quick (start .args .scan) _ (start .pre .1) (start .pre .0) (rw (c .before .before .is3 .ensures, c .before .fixed .ensures) at (c .if3 .taken)))
+    rw (sym (c .before .before .before .before .before .before .is .ensures) ∙ c .before .before .before .before .before .if1 .left, sym (c .before .before .before .before .is2 .ensures) ∙ c .before .before .before .if2 .left, rw (c .before .before .is3 .ensures, c .before .fixed .ensures) at (c .if3 .taken))
+    (ap (Q.Took K.Time) (c .before .before .before .before .before .before .before .moved .ensures))
+
+returns-4 : tie.Need-returns-4
+returns-4 c =
+    rw (sym (c .before .before .before .before .before .before .is .ensures) ∙ c .before .before .before .before .before .if1 .left, sym (c .before .before .before .before .is2 .ensures) ∙ c .before .before .before .if2 .left, rw (c .before .before .is3 .ensures, c .before .fixed .ensures) at (c .if3 .left))
 
 pub measure-spec : {M : Type 1} → statement M
 measure-spec =
@@ -32,4 +35,4 @@ measure-spec =
     (λ c κs. search needs)
     (λ c κs. search needs)
     returns-3
-    (λ c. search needs))
+    returns-4)

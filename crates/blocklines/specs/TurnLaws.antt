@@ -12,15 +12,12 @@ use Rattle.reader.specs.declared.Judged.the-variants as J
 use Rattle.reader.specs.Reader.{judgeAt, Reading, just, outOf, onJudged, readFrom}
 use Rattle.reader.specs.RunLaws.{refused-some}
 use Rattle.text.specs.Page.{Page, put}
-use Rattle.text.specs.Line.{Line, lineText, textOf}
-use Rattle.text.specs.LineLaws.{say-one}
+use Rattle.text.specs.Line.{textOf}
 use Rattle.entries.specs.Entries.{recordLines, fillerIn}
-use Rattle.glance.specs.declared.Turn.{Turn}
-use Rattle.glance.specs.declared.Turn.the-variants as T
-use Rattle.glance.specs.declared.Kind.{Kind}
-use Rattle.glance.specs.Turn.{onTo, turnOf}
-use Rattle.glance.specs.Quick.{quickItem, quickLine}
-use Rattle.glance.specs.QuickLaws.{quick-line, quick-filler}
+use Rattle.blocklines.specs.declared.Turn.{Turn}
+use Rattle.blocklines.specs.declared.Turn.the-variants as T
+use Rattle.blocklines.specs.Turn.{onTo, turnOf}
+use Rattle.glance.specs.QuickLaws.{Went}
 
 filler-le : (x : Item) → fillerIn x ≤ 1
 filler-le (I.Block r) = omega arith
@@ -50,20 +47,7 @@ module _ (s : Scan) (word : ℕ) (behind text : List ℕ) (at : ℕ) where
   unfolding turnOf
   turn-took {x} {t} {text′} {k} {m} e p f = ap (onTo (text′, k) t) f ∙ ap (λ (q : Page). onTo q t (fillerIn x)) p ∙ turn-by e
 
-  pub turn-quick : (kind : Kind) {t : Scan} {text′ : List ℕ} {k : ℕ} → J.Took (quickItem kind word) t ≡ judgeAt s word
-      → _≡_ {A = Page} (text′, k) (put (text, at) (lineText (quickLine kind word)))
-      → _≡_ {A = List ℕ × Turn} (text′, T.On k t 0) (turnOf (text, at) (judgeAt s word) (s .place) behind)
-  turn-quick kind e p = turn-took e (say-one _ _ _ (quickLine kind word) p (quick-line kind word _)) (sym (quick-filler kind word))
-
 -- ---- what a reader of the turn learns
-
--- the record x was put
-pub record Went (s : Scan) (word : ℕ) (behind text : List ℕ) (at : ℕ) (k : ℕ) (t : Scan) (m : ℕ) (text′ : List ℕ) : Type 0 where
-  pub item : Item
-  pub judged : J.Took item t ≡ judgeAt s word
-  pub page : _≡_ {A = Page} (text′, k) (put (text, at) (textOf (recordLines item ((readFrom t (wordsOfBytes behind)) .items))))
-  pub filler : m ≡ fillerIn item
-  pub most : m ≤ 1
 
 module _ (s : Scan) (word : ℕ) (behind text : List ℕ) (at : ℕ) {text′ : List ℕ} {r : Turn} (e : _≡_ {A = List ℕ × Turn} (text′, r) (turnOf (text, at) (judgeAt s word) (s .place) behind)) where
   pub turn-on : {k : ℕ} {t : Scan} {m : ℕ} → r ≡ T.On k t m → Went s word behind text at k t m text′

@@ -1,9 +1,9 @@
--- `listing::stop` meets its contract: the fillers' line, then a refusal or none.
+-- `blocklines::stop` meets its contract: the fillers' line, then a refusal or none.
 use borrow.Author.Tests.{eq-eqb, ne-eqb}
-use Rattle.listing.specs.BlockLaws.{stopped-whole, stopped-broken}
+use Rattle.blocklines.specs.BlockLaws.{stopped-whole, stopped-broken}
 use borrow.Author.Needs.{needs}
-use Rattle.listing.proofs.stop.Statement.{statement}
-use Rattle.listing.proofs.stop.Tie as tie
+use Rattle.blocklines.proofs.stop.Statement.{statement}
+use Rattle.blocklines.proofs.stop.Tie as tie
 
 returns : tie.Need-returns
 returns c =

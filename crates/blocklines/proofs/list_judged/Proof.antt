@@ -1,10 +1,10 @@
--- `glance::list_judged` meets its contract: what the judgement gives.
+-- `blocklines::list_judged` meets its contract: what the judgement gives.
 use mathlib.Core.Path.{sym, _∙_}
-use Rattle.glance.specs.Turn.{turnOf}
-use Rattle.glance.specs.TurnLaws.{turn-by, turn-took}
+use Rattle.blocklines.specs.Turn.{turnOf}
+use Rattle.blocklines.specs.TurnLaws.{turn-by, turn-took}
 use borrow.Author.Needs.{needs}
-use Rattle.glance.proofs.list_judged.Statement.{statement}
-use Rattle.glance.proofs.list_judged.Tie as tie
+use Rattle.blocklines.proofs.list_judged.Statement.{statement}
+use Rattle.blocklines.proofs.list_judged.Tie as tie
 
 returns : tie.Need-returns
 returns c =

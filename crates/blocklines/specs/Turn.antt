@@ -9,8 +9,8 @@ use Rattle.reader.specs.Reader.{readFrom}
 use Rattle.text.specs.Page.{Page, put}
 use Rattle.text.specs.Line.{textOf}
 use Rattle.entries.specs.Entries.{recordLines, fillerIn}
-use Rattle.glance.specs.declared.Turn.{Turn}
-use Rattle.glance.specs.declared.Turn.the-variants as T
+use Rattle.blocklines.specs.declared.Turn.{Turn}
+use Rattle.blocklines.specs.declared.Turn.the-variants as T
 
 -- the buffer, and the place with what stands behind the word
 abbrev pub onTo : Page → Scan → ℕ → List ℕ × Turn
