@@ -20,10 +20,10 @@ use Rattle.scan.specs.After.{startOf}
 use Rattle.reader.specs.Reader.{stepAt, withItem, judgeAt, Out, endNumber, outOf, Reading, then, just, onJudged, readFrom}
 use Rattle.reader.specs.ReaderLaws.{ended}
 use Rattle.reader.specs.RunLaws.{items-le, end-by}
-use Rattle.text.specs.Page.{Page, put}
-use Rattle.text.specs.PageLaws.{put-append}
-use Rattle.text.specs.Line.{Line, lineText, textOf}
-use Rattle.text.specs.LineLaws.{text-append, say-one, say-both}
+use Rattle.written.specs.Page.{Page, put}
+use Rattle.written.specs.PageLaws.{put-append}
+use Rattle.written.specs.Line.{Line, lineText, textOf}
+use Rattle.written.specs.LineLaws.{text-append, say-one, say-both}
 use Rattle.blocklines.specs.declared.Block.{Block}
 use Rattle.lines.specs.Lines.{refusedLine, fillLines}
 use Rattle.entries.specs.Entries.{recordLines, fillerIn}

@@ -6,8 +6,8 @@ use mathlib.Core.List.{List, [], _∷_, _++_}
 use lib.ListN.{length}
 use Rattle.items.specs.declared.Item.{Item}
 use Rattle.reader.specs.Reader.{Out, Whole, Broken, Reading}
-use Rattle.text.specs.Page.{Page, put}
-use Rattle.text.specs.Line.{Line, textOf}
+use Rattle.written.specs.Page.{Page, put}
+use Rattle.written.specs.Line.{Line, textOf}
 use Rattle.lines.specs.Lines.{refusedLine, fillLines}
 use Rattle.entries.specs.Entries.{recordLines, fillerIn}
 use Rattle.blocklines.specs.declared.Block.{Block}
@@ -49,5 +49,5 @@ ReadingSays text at r b text′ = BlockSays text at (blockLines r) (4 * length (
 
 -- a proof that computes opens this file and what it leans on by one name
 unfoldable pub allOpen : Unit {0}
-unfolding itemLines fillersIn blockLines Rattle.entries.specs.Entries.allOpen Rattle.text.specs.Line.allOpen Rattle.lines.specs.Lines.allOpen
+unfolding itemLines fillersIn blockLines Rattle.entries.specs.Entries.allOpen Rattle.written.specs.Line.allOpen Rattle.lines.specs.Lines.allOpen
 allOpen = tt

@@ -6,8 +6,8 @@ use Rattle.scan.specs.declared.Scan.{Scan}
 use Rattle.reader.specs.declared.Judged.{Judged}
 use Rattle.reader.specs.declared.Judged.the-variants as J
 use Rattle.reader.specs.Reader.{readFrom}
-use Rattle.text.specs.Page.{Page, put}
-use Rattle.text.specs.Line.{textOf}
+use Rattle.written.specs.Page.{Page, put}
+use Rattle.written.specs.Line.{textOf}
 use Rattle.entries.specs.Entries.{recordLines, fillerIn}
 use Rattle.blocklines.specs.declared.Turn.{Turn}
 use Rattle.blocklines.specs.declared.Turn.the-variants as T

@@ -11,8 +11,8 @@ use Rattle.reader.specs.declared.Judged.{Judged}
 use Rattle.reader.specs.declared.Judged.the-variants as J
 use Rattle.reader.specs.Reader.{judgeAt, Reading, just, outOf, onJudged, readFrom}
 use Rattle.reader.specs.RunLaws.{refused-some}
-use Rattle.text.specs.Page.{Page, put}
-use Rattle.text.specs.Line.{textOf}
+use Rattle.written.specs.Page.{Page, put}
+use Rattle.written.specs.Line.{textOf}
 use Rattle.entries.specs.Entries.{recordLines, fillerIn}
 use Rattle.blocklines.specs.declared.Turn.{Turn}
 use Rattle.blocklines.specs.declared.Turn.the-variants as T

@@ -10,8 +10,8 @@ use lib.ListN.{length, take, drop}
 use Rattle.fields.specs.Bytes.{bytesOf, wordOfBytes, wordsOfBytes}
 use Rattle.items.specs.declared.Item.{Item}
 use Rattle.reader.specs.Reader.{Whole, Reading}
-use Rattle.text.specs.Line.{Line, textOf}
-use Rattle.text.specs.LineLaws.{text-append}
+use Rattle.written.specs.Line.{Line, textOf}
+use Rattle.written.specs.LineLaws.{text-append}
 use Rattle.lines.specs.Lines.{refusedLine}
 use Rattle.blocklines.specs.BlockLines.{blockLines}
 use Rattle.listing.specs.Listing.{blockThen, linesFrom, cutWrong, linesUnless, listingOf, longListingOf}

@@ -60,6 +60,7 @@ use Rattle.bytecheck.proofs as bytecheck
 use Rattle.host.proofs as host
 use Rattle.hostread.proofs as hostread
 use Rattle.host.specs.UniqueLaws as H
+use Rattle.written.proofs as written
 use Rattle.text.proofs as text
 use Rattle.lines.proofs as lines
 use Rattle.entries.proofs as entries
@@ -664,6 +665,13 @@ pub fadc250-find-unique : Unique host.found.fadc250_find.ended host.found.fadc25
 fadc250-find-unique κs a r s u v p q = let e = H.find-face-unique _ _ _ _ _ _ _ _ p q in (e .0, λ i. (tt, (tt, (tt, (e .1 i, tt)))))
 
 -- ---- listing
+
+-- written
+pub line-unique : Unique written.line.ended written.line.Reads.Learnt
+line-unique κs a r s u v p q = by-page (u .1) p q
+
+pub cell-unique : Unique written.cell.ended written.cell.Reads.Learnt
+cell-unique κs a r s u v p q = let e = one-result (p .0) (q .0) in (λ i. record { bytes = e i .0; count = e i .1 }, refl)
 
 -- text
 pub put-line-unique : Unique text.put_line.ended text.put_line.Reads.Learnt

@@ -17,8 +17,8 @@ use Rattle.scan.specs.After.{onward}
 use Rattle.questions.specs.Questions.{atLimit}
 use Rattle.reader.specs.declared.Judged.the-variants as J
 use Rattle.reader.specs.Reader.{judgeAt}
-use Rattle.text.specs.Page.{Page, put}
-use Rattle.text.specs.Line.{Line, lineText}
+use Rattle.written.specs.Page.{Page, put}
+use Rattle.written.specs.Line.{Line, lineText}
 use Rattle.lines.specs.Lines.{pairLine, integralLine, timeLine, pedLine}
 use Rattle.glance.specs.declared.Kind.{Kind}
 use Rattle.glance.specs.declared.Kind.the-variants as K

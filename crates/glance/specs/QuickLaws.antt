@@ -32,9 +32,9 @@ use Rattle.reader.specs.ReaderLaws.{step-form, judge-by}
 use Rattle.entries.specs.Entries.{recordLines, fillerIn}
 use Rattle.fields.specs.Bytes.{wordsOfBytes}
 use Rattle.reader.specs.Reader.{readFrom}
-use Rattle.text.specs.Page.{Page, put}
-use Rattle.text.specs.Line.{Line, lineText, textOf}
-use Rattle.text.specs.LineLaws.{say-one}
+use Rattle.written.specs.Page.{Page, put}
+use Rattle.written.specs.Line.{Line, lineText, textOf}
+use Rattle.written.specs.LineLaws.{say-one}
 use Rattle.glance.specs.declared.Kind.{Kind}
 use Rattle.glance.specs.declared.Kind.the-variants as K
 use Rattle.raw.specs.Plain.{plain}

@@ -1,8 +1,8 @@
 // The words that most blocks are full of: pairs of two samples inside a raw item, and measures one after another. They are
 // known at a glance, and have one line each; any other word is left to the reader.
 ghost use mathlib.Core.Path.{_≡_};
-ghost use Rattle.text.specs.Page.{put};
-ghost use Rattle.text.specs.Line.{lineText};
+ghost use Rattle.written.specs.Page.{put};
+ghost use Rattle.written.specs.Line.{lineText};
 ghost use Rattle.raw.specs.Plain.{plain};
 ghost use Rattle.glance.specs.Quick.{behindAt, measureOf, quickBy, quickOf, quickLine, knownOf};
 use measures::integral::PulseIntegral;

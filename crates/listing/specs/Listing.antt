@@ -7,7 +7,7 @@ use lib.ListN.{length}
 use Rattle.scan.specs.After.{startOf}
 use Rattle.reader.specs.Reader.{Reading, readFrom}
 use Rattle.fields.specs.Bytes.{wordsOfBytes}
-use Rattle.text.specs.Line.{Line, textOf}
+use Rattle.written.specs.Line.{Line, textOf}
 use Rattle.lines.specs.Lines.{refusedLine}
 use Rattle.blocklines.specs.BlockLines.{isWhole, blockLines}
 
@@ -43,5 +43,5 @@ longListingOf bytes = textOf (linesUnless (cutWrong (length bytes)) bytes)
 
 -- a proof that computes opens this file and what it leans on by one name
 unfoldable pub allOpen : Unit {0}
-unfolding linesFrom linesUnless listingOf longListingOf Rattle.scan.specs.After.allOpen Rattle.reader.specs.Reader.allOpen Rattle.fields.specs.Bytes.allOpen Rattle.blocklines.specs.BlockLines.allOpen Rattle.text.specs.Line.allOpen Rattle.lines.specs.Lines.allOpen
+unfolding linesFrom linesUnless listingOf longListingOf Rattle.scan.specs.After.allOpen Rattle.reader.specs.Reader.allOpen Rattle.fields.specs.Bytes.allOpen Rattle.blocklines.specs.BlockLines.allOpen Rattle.written.specs.Line.allOpen Rattle.lines.specs.Lines.allOpen
 allOpen = tt

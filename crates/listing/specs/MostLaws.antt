@@ -32,8 +32,8 @@ use Rattle.reader.specs.declared.Step.the-variants as S
 use Rattle.fields.specs.WordLaws.{field-lt}
 use Rattle.fields.specs.Bytes.{wordsOfBytes}
 use Rattle.fields.specs.BytesLaws.{words-le}
-use Rattle.text.specs.Line.{Cell, Number, cellOf, Line, lineOf}
-use Rattle.text.specs.LengthLaws.{Below, most, size, size-none, size-both, size-one}
+use Rattle.written.specs.Line.{Cell, Number, cellOf, Line, lineOf}
+use Rattle.written.specs.LengthLaws.{Below, most, size, size-none, size-both, size-one}
 use Rattle.lines.specs.declared.Second.{Second}
 use Rattle.lines.specs.declared.Second.the-variants as N
 use Rattle.listing.specs.declared.Listed.{Listed}

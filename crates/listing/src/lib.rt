@@ -1,8 +1,8 @@
 // The lister: the lines of the records of an input, as text in a lent buffer.
 ghost use mathlib.Core.Path.{_≡_};
 ghost use Rattle.fields.specs.Bytes.{wordsOfBytes};
-ghost use Rattle.text.specs.Page.{put};
-ghost use Rattle.text.specs.Line.{textOf};
+ghost use Rattle.written.specs.Page.{put};
+ghost use Rattle.written.specs.Line.{textOf};
 ghost use Rattle.listing.specs.Listing.{linesFrom, linesUnless, listingOf, longListingOf};
 ghost use Rattle.listing.specs.Says.{ListSays, LongSays};
 use refusals::Refusal;

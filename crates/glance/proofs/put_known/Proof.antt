@@ -1,6 +1,6 @@
 -- `glance::put_known` meets its contract: the line of a known word, or none.
 use mathlib.Core.Path.{sym, ap, _∙_}
-use Rattle.text.specs.Page.{Page}
+use Rattle.written.specs.Page.{Page}
 use Rattle.glance.specs.Quick.{onTo}
 use borrow.Author.Needs.{needs}
 use Rattle.glance.proofs.put_known.Statement.{statement}

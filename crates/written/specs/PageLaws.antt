@@ -10,7 +10,7 @@ use borrow.Author.Tests.{lt-ltb, le-ltb, ltb-true, ltb-false, le-leb, lt-leb}
 use lib.Dec.{leb, ltb}
 use lib.ListN.{length, take, drop, set, getD, length-set, drop-of-length-le}
 use lib.Seq.{set-out, take-at, drop-cons, sets, sets-eq}
-use Rattle.text.specs.Page.{Page, farthest, past, putByte, put}
+use Rattle.written.specs.Page.{Page, farthest, past, putByte, put}
 
 pub put-nil : (p : Page) → put p [] ≡ p
 unfolding put

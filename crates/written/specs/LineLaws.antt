@@ -13,9 +13,9 @@ use lib.Seq.{drop-cons}
 use Rattle.ground.specs.Search.{least}
 use Rattle.ground.specs.SearchLaws.{IsLeast, LeastSays, least-says, least-one}
 use Rattle.io.specs.Digits.{digits, Fewest}
-use Rattle.text.specs.Page.{Page, put}
-use Rattle.text.specs.PageLaws.{put-nil, put-append, put-then}
-use Rattle.text.specs.Line.{placesOf, decimal, cellText, cellsText, Line, lineText, textOf, cellOf, cellsOf}
+use Rattle.written.specs.Page.{Page, put}
+use Rattle.written.specs.PageLaws.{put-nil, put-append, put-then}
+use Rattle.written.specs.Line.{placesOf, decimal, cellText, cellsText, Line, lineText, textOf, cellOf, cellsOf}
 
 -- ---- what `io::decimal` gives
 

@@ -1,10 +1,10 @@
--- `text::write_line` meets its contract: three writers one after another.
+-- `written::write_line` meets its contract: three writers one after another.
 use mathlib.Core.List.{[], _∷_}
-use Rattle.text.specs.PageLaws.{put-then}
-use Rattle.text.specs.Line.{lineText}
+use Rattle.written.specs.PageLaws.{put-then}
+use Rattle.written.specs.Line.{lineText}
 use borrow.Author.Needs.{needs}
-use Rattle.text.proofs.write_line.Statement.{statement}
-use Rattle.text.proofs.write_line.Tie as tie
+use Rattle.written.proofs.write_line.Statement.{statement}
+use Rattle.written.proofs.write_line.Tie as tie
 
 returns : tie.Need-returns
 unfolding lineText

@@ -1,14 +1,14 @@
--- `text::write_cells` meets its contract: the page with the cells that are left is the page asked for.
+-- `written::write_cells` meets its contract: the page with the cells that are left is the page asked for.
 use Prim.Native.Nat.{_+_, _*_, _-_, _≤_}
 use mathlib.Core.Path.{_≡_, refl, sym, _∙_}
 use native.Mathlib.Omega.{arith}
 use lib.ListN.{length, drop}
-use Rattle.text.specs.Page.{put}
-use Rattle.text.specs.Line.{cellsText, cellsOf}
-use Rattle.text.specs.LineLaws.{cells-turn, cells-done}
+use Rattle.written.specs.Page.{put}
+use Rattle.written.specs.Line.{cellsText, cellsOf}
+use Rattle.written.specs.LineLaws.{cells-turn, cells-done}
 use borrow.Author.Needs.{needs}
-use Rattle.text.proofs.write_cells.Statement.{statement}
-use Rattle.text.proofs.write_cells.Tie as tie
+use Rattle.written.proofs.write_cells.Statement.{statement}
+use Rattle.written.proofs.write_cells.Tie as tie
 
 abbrev Inv-loop : tie.InvT-loop
 Inv-loop text₀ at cells dashes i₀ k₀ marks₀ text i k marks =

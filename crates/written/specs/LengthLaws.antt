@@ -11,8 +11,8 @@ use lib.ListN.{length, length-append}
 use Rattle.ground.specs.Search.{least}
 use Rattle.ground.specs.SearchLaws.{LeastSays, least-says}
 use Rattle.io.specs.Digits.{digits, glyph}
-use Rattle.text.specs.Line.{placesOf, decimal, Cell, Number, Dash, cellsText, Line, lineOf, lineText, textOf}
-use Rattle.text.specs.LineLaws.{text-one, text-append}
+use Rattle.written.specs.Line.{placesOf, decimal, Cell, Number, Dash, cellsText, Line, lineOf, lineText, textOf}
+use Rattle.written.specs.LineLaws.{text-one, text-append}
 
 digits-length : (k n : ℕ) → length (digits 10 k n) ≡ k
 digits-length zero n = refl

@@ -1,10 +1,10 @@
--- `text::write_byte` meets its contract.
+-- `written::write_byte` meets its contract.
 use mathlib.Core.Path.{refl}
 use native.Mathlib.Omega.{arith}
-use Rattle.text.specs.PageLaws.{put-here}
+use Rattle.written.specs.PageLaws.{put-here}
 use borrow.Author.Needs.{needs}
-use Rattle.text.proofs.write_byte.Statement.{statement}
-use Rattle.text.proofs.write_byte.Tie as tie
+use Rattle.written.proofs.write_byte.Statement.{statement}
+use Rattle.written.proofs.write_byte.Tie as tie
 
 returns : tie.Need-returns
 returns c = (put-here _ _ _ (omega arith), refl)

@@ -1,10 +1,10 @@
--- `text::write_digit` meets its contract: a digit's character.
+-- `written::write_digit` meets its contract: a digit's character.
 use Prim.Native.Nat.{_%_}
 use native.Mathlib.Omega.{arith}
 use borrow.Author.Tests.{lt-ltb}
 use borrow.Author.Needs.{needs}
-use Rattle.text.proofs.write_digit.Statement.{statement}
-use Rattle.text.proofs.write_digit.Tie as tie
+use Rattle.written.proofs.write_digit.Statement.{statement}
+use Rattle.written.proofs.write_digit.Tie as tie
 
 returns : tie.Need-returns
 returns c = rw (lt-ltb (c .before .before .before .before .before .args .n % 10) 10 (omega arith)) (c .before .before .write-byte .ensures)

@@ -1,13 +1,13 @@
--- `text::write_number` meets its contract: the digits are the fewest.
+-- `written::write_number` meets its contract: the digits are the fewest.
 use Prim.Native.Nat.{ℕ}
 use mathlib.Core.Path.{ap, _∙_}
 use mathlib.Core.List.{List}
 use native.Mathlib.Omega.{arith}
-use Rattle.text.specs.Page.{put}
-use Rattle.text.specs.LineLaws.{fewest-le, decimal-is}
+use Rattle.written.specs.Page.{put}
+use Rattle.written.specs.LineLaws.{fewest-le, decimal-is}
 use borrow.Author.Needs.{needs}
-use Rattle.text.proofs.write_number.Statement.{statement}
-use Rattle.text.proofs.write_number.Tie as tie
+use Rattle.written.proofs.write_number.Statement.{statement}
+use Rattle.written.proofs.write_number.Tie as tie
 
 returns : tie.Need-returns
 returns c =

@@ -1,13 +1,13 @@
--- `text::write_bytes` meets its contract: the page with the bytes that are left is the page asked for.
+-- `written::write_bytes` meets its contract: the page with the bytes that are left is the page asked for.
 use Prim.Native.Nat.{_+_, _-_, _≤_}
 use mathlib.Core.Path.{_≡_, refl, sym, _∙_}
 use native.Mathlib.Omega.{arith}
 use lib.ListN.{length, drop}
-use Rattle.text.specs.Page.{put}
-use Rattle.text.specs.PageLaws.{put-turn, put-done}
+use Rattle.written.specs.Page.{put}
+use Rattle.written.specs.PageLaws.{put-turn, put-done}
 use borrow.Author.Needs.{needs}
-use Rattle.text.proofs.write_bytes.Statement.{statement}
-use Rattle.text.proofs.write_bytes.Tie as tie
+use Rattle.written.proofs.write_bytes.Statement.{statement}
+use Rattle.written.proofs.write_bytes.Tie as tie
 
 abbrev Inv-loop : tie.InvT-loop
 Inv-loop text₀ at s i₀ k₀ text i k = (length text ≡ length text₀) × (i ≤ length s) × (k ≡ at + i) × (put (text₀, at) s ≡ put (text, k) (drop i s))

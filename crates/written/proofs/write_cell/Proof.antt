@@ -1,10 +1,10 @@
--- `text::write_cell` meets its contract: a tab, then what the test chose.
+-- `written::write_cell` meets its contract: a tab, then what the test chose.
 use mathlib.Core.List.{[], _∷_}
 use native.Mathlib.Omega.{arith}
-use Rattle.text.specs.PageLaws.{put-then}
+use Rattle.written.specs.PageLaws.{put-then}
 use borrow.Author.Needs.{needs}
-use Rattle.text.proofs.write_cell.Statement.{statement}
-use Rattle.text.proofs.write_cell.Tie as tie
+use Rattle.written.proofs.write_cell.Statement.{statement}
+use Rattle.written.proofs.write_cell.Tie as tie
 
 returns : tie.Need-returns
 returns c = (rw (c .before .before .before .before .if1 .taken) (put-then _ _ _ (9 ∷ []) _ (c .before .before .before .before .before .before .before .write-byte .ensures .0) (c .before .before .write-byte2 .ensures .0)), omega arith)
