@@ -15,8 +15,8 @@ use Rattle.scan.specs.After.{startOf}
 use Rattle.reader.specs.Reader.{Out, Whole, Broken, Reading, readFrom, checkFrom}
 use Rattle.reader.specs.RunLaws.{check-reads}
 use Rattle.bytecheck.specs.Check.{numberOfOut, checkNumber}
-use Rattle.text.specs.Line.{textOf}
-use Rattle.text.specs.LineLaws.{text-append}
+use Rattle.written.specs.Line.{textOf}
+use Rattle.written.specs.LineLaws.{text-append}
 use Rattle.listing.specs.Listing.{linesFrom, listingOf, longListingOf}
 use Rattle.layout.specs.NothingLost.{AllWords}
 use Rattle.layout.specs.Grammar.{SpeltTree, Ends, Front}

@@ -10,10 +10,11 @@ use lib.ListN.{length, take, drop}
 use Rattle.fields.specs.Bytes.{bytesOf, wordOfBytes, wordsOfBytes}
 use Rattle.items.specs.declared.Item.{Item}
 use Rattle.reader.specs.Reader.{Whole, Reading}
-use Rattle.text.specs.Line.{Line, textOf}
-use Rattle.text.specs.LineLaws.{text-append}
+use Rattle.written.specs.Line.{Line, textOf}
+use Rattle.written.specs.LineLaws.{text-append}
 use Rattle.lines.specs.Lines.{refusedLine}
-use Rattle.listing.specs.Listing.{blockLines, blockThen, linesFrom, cutWrong, linesUnless, listingOf, longListingOf}
+use Rattle.blocklines.specs.BlockLines.{blockLines}
+use Rattle.listing.specs.Listing.{blockThen, linesFrom, cutWrong, linesUnless, listingOf, longListingOf}
 use Rattle.layout.specs.NothingLost.{AllWords}
 use Rattle.layout.specs.Grammar.{Tree, block, empty, recordsOf, Spelt, SpeltTree, Ends}
 use Rattle.layout.specs.ExactLaws.{spelt-length, alone, followed}

@@ -67,10 +67,13 @@ use Rattle.hostfind.proofs as hostfind
 use Rattle.hostread.proofs as hostread
 use Rattle.host.specs.UniqueLaws as H
 use Rattle.hostfind.specs.UniqueLaws as found
+use Rattle.written.proofs as written
 use Rattle.text.proofs as text
-use Rattle.text.specs.Page.{Page}
 use Rattle.lines.proofs as lines
 use Rattle.entries.proofs as entries
+use Rattle.glance.proofs as glance
+use Rattle.blocklines.proofs as blocklines
+use Rattle.blocklines.specs.BlockLaws.{one-block}
 use Rattle.listing.proofs as listing
 use Rattle.listing.specs.RoomLaws.{one-listing, one-length}
 use Rattle.cursors.proofs as cursors
@@ -99,7 +102,7 @@ by-writing : {A U : Type 0} {good : Bool} {words new x y : List A} {at r s : ℕ
 by-writing rest p q = let e = one-writing p q in (e .0, λ i. (e .1 i, rest))
 
 -- bytes put on a page, likewise
-by-page : {U : Type 0} {page : Page} {x y : List ℕ} {r s : ℕ} (rest : U) → (x, r) ≡ page → (y, s) ≡ page
+by-page : {A U : Type 0} {page : List ℕ × A} {x y : List ℕ} {r s : A} (rest : U) → (x, r) ≡ page → (y, s) ≡ page
     → (r ≡ s) × (_≡_ {A = List ℕ × U} (x, rest) (y, rest))
 by-page rest p q = let e = one-result p q in (λ i. e i .1, λ i. (e i .0, rest))
 
@@ -694,6 +697,13 @@ fadc250-find-unique κs a r s u v p q = let e = found.find-face-unique _ _ _ _ _
 
 -- ---- listing
 
+-- written
+pub line-unique : Unique written.line.ended written.line.Reads.Learnt
+line-unique κs a r s u v p q = by-page (u .1) p q
+
+pub cell-unique : Unique written.cell.ended written.cell.Reads.Learnt
+cell-unique κs a r s u v p q = let e = one-result (p .0) (q .0) in (λ i. record { bytes = e i .0; count = e i .1 }, refl)
+
 -- text
 pub put-line-unique : Unique text.put_line.ended text.put_line.Reads.Learnt
 put-line-unique κs a r s u v p q = by-page (u .1) p q
@@ -750,6 +760,14 @@ filler-in-unique κs a r s u v p q = by-equation (p .0) (q .0)
 
 pub list-item-unique : Unique entries.list_item.ended entries.list_item.Reads.Learnt
 list-item-unique κs a r s u v p q = by-page (u .1) p q
+
+-- glance
+pub put-known-unique : Unique glance.put_known.ended glance.put_known.Reads.Learnt
+put-known-unique κs a r s u v p q = by-page (u .1) p q
+
+-- blocklines
+pub list-block-unique : Unique blocklines.list_block.ended blocklines.list_block.Reads.Learnt
+list-block-unique κs a r s u v p q = let e = one-block p q in (e .0, λ i. (tt, (e .1 i, (tt, tt))))
 
 -- listing
 pub list-unique : Unique listing.list.ended listing.list.Reads.Learnt

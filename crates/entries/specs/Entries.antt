@@ -3,7 +3,7 @@ use Prim.Native.Nat.{ℕ}
 use mathlib.Core.List.{List, [], _∷_}
 use Rattle.items.specs.declared.Item.{Item}
 use Rattle.items.specs.declared.Item.the-variants as I
-use Rattle.text.specs.Line.{Line}
+use Rattle.written.specs.Line.{Line}
 use Rattle.lines.specs.declared.Second.{Second}
 use Rattle.lines.specs.declared.Second.the-variants as S
 use Rattle.lines.specs.Lines.{blockLine, setupLine, eventLine, clockLine, windowLine, pulseLine, pairLine, integralLine, timeLine, pedLine, endLine, emptyLine}
@@ -65,5 +65,5 @@ fillerIn (I.Filler r) = 1
 
 -- a proof that computes opens this file and what it leans on by one name
 unfoldable pub allOpen : Unit {0}
-unfolding Rattle.text.specs.Line.allOpen Rattle.lines.specs.Lines.allOpen
+unfolding Rattle.written.specs.Line.allOpen Rattle.lines.specs.Lines.allOpen
 allOpen = tt

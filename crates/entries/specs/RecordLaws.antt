@@ -1,9 +1,9 @@
 -- The lines of one record: one, none, or that of a first time word. Assumes nothing.
 use mathlib.Core.Path.{_≡_, sym, ap, _∙_}
 use mathlib.Core.List.{List, [], _∷_}
-use Rattle.text.specs.Line.{Line, lineText, textOf}
-use Rattle.text.specs.Page.{Page, put}
-use Rattle.text.specs.LineLaws.{say-none, say-one}
+use Rattle.written.specs.Line.{Line, lineText, textOf}
+use Rattle.written.specs.Page.{Page, put}
+use Rattle.written.specs.LineLaws.{say-none, say-one}
 use Rattle.items.specs.declared.Item.{Item}
 use Rattle.items.specs.declared.Item.the-variants as I
 use Rattle.framing.specs.declared.trigger_time.TriggerTime.{TriggerTime}

@@ -4,8 +4,8 @@ ghost use Prim.Native.Nat.{_≤_};
 ghost use lib.ListN.{getD};
 ghost use Rattle.reader.specs.Reader.{readFrom};
 ghost use Rattle.fields.specs.Bytes.{wordsOfBytes};
-ghost use Rattle.text.specs.Page.{put};
-ghost use Rattle.text.specs.Line.{textOf};
+ghost use Rattle.written.specs.Page.{put};
+ghost use Rattle.written.specs.Line.{textOf};
 ghost use Rattle.entries.specs.Entries.{highIn, secondOf, recordLines, fillerIn};
 use items::Item;
 use lines::Second;
@@ -25,21 +25,10 @@ pub fn first_word(bytes: &[u8]) -> u32
 fn high_in(item: Item) -> Second
     ensures { λ r. ⌜ r ≡ highIn item ⌝ }
 {
-    match item {
-        Item::Block(_) => Second::Nothing,
-        Item::Parameters(_) => Second::Nothing,
-        Item::Trailer(_) => Second::Nothing,
-        Item::Event(_) => Second::Nothing,
-        Item::Clock(_) => Second::Nothing,
-        Item::ClockHigh(r) => Second::High(r.high),
-        Item::Window(_) => Second::Nothing,
-        Item::Raw(_) => Second::Nothing,
-        Item::Pair(_) => Second::Nothing,
-        Item::Integral(_) => Second::Nothing,
-        Item::Time(_) => Second::Nothing,
-        Item::Pedestal(_) => Second::Nothing,
-        Item::Empty(_) => Second::Nothing,
-        Item::Filler(_) => Second::Nothing,
+    if let Item::ClockHigh(r) = item {
+        Second::High(r.high)
+    } else {
+        Second::Nothing
     }
 }
 
@@ -84,20 +73,5 @@ pub fn list_item(text: &mut [u8], at: usize, item: Item, behind: &[u8], after: S
 pub fn filler_in(item: Item) -> u64
     ensures { λ r. ⌜ (r ≡ fillerIn item) × (r ≤ 1) ⌝ }
 {
-    match item {
-        Item::Block(_) => 0,
-        Item::Parameters(_) => 0,
-        Item::Trailer(_) => 0,
-        Item::Event(_) => 0,
-        Item::Clock(_) => 0,
-        Item::ClockHigh(_) => 0,
-        Item::Window(_) => 0,
-        Item::Raw(_) => 0,
-        Item::Pair(_) => 0,
-        Item::Integral(_) => 0,
-        Item::Time(_) => 0,
-        Item::Pedestal(_) => 0,
-        Item::Empty(_) => 0,
-        Item::Filler(_) => 1,
-    }
+    if let Item::Filler(_) = item { 1 } else { 0 }
 }

@@ -15,7 +15,7 @@ use Rattle.raw.specs.declared.pair.SamplePair.{SamplePair}
 use Rattle.measures.specs.declared.integral.PulseIntegral.{PulseIntegral}
 use Rattle.measures.specs.declared.time.PulseTime.{PulseTime}
 use Rattle.measures.specs.declared.pedestal.PulsePedestal.{PulsePedestal}
-use Rattle.text.specs.Line.{Number, cellOf, Line, lineOf}
+use Rattle.written.specs.Line.{Number, cellOf, Line, lineOf}
 use Rattle.lines.specs.declared.Second.{Second}
 use Rattle.lines.specs.declared.Second.the-variants as S
 
@@ -127,5 +127,5 @@ fillLines fillers = cond (eqb fillers 0) [] (lineOf fillName (Number fillers ∷
 
 -- a proof that computes opens this file and what it leans on by one name
 unfoldable pub allOpen : Unit {0}
-unfolding Rattle.text.specs.Line.allOpen
+unfolding Rattle.written.specs.Line.allOpen
 allOpen = tt

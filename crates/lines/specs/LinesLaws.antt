@@ -5,8 +5,8 @@ use mathlib.Core.Bool.{Bool, true, false, cond}
 use mathlib.Core.List.{[], _∷_}
 use lib.Dec.{eqb}
 use Rattle.raw.specs.declared.pair.SamplePair.{SamplePair}
-use Rattle.text.specs.Page.{Page, put}
-use Rattle.text.specs.Line.{cellOf, cellsOf, Line, lineOf, lineText}
+use Rattle.written.specs.Page.{Page, put}
+use Rattle.written.specs.Line.{cellOf, cellsOf, Line, lineOf, lineText}
 use Rattle.lines.specs.Lines.{pairName, pairLine}
 
 -- the renderer's bits of a pair

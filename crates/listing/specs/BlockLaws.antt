@@ -1,4 +1,4 @@
--- A block listed word by word, and blocks one after another. Assumes nothing.
+-- Blocks one after another. Assumes nothing.
 use Prim.Native.Nat.{ℕ, zero, suc, _+_, _-_, _*_, _≤_, _<_}
 use mathlib.Core.Path.{_≡_, refl, sym, ap, _∙_}
 use mathlib.Core.Bool.{Bool, true, false, cond, false≢true}
@@ -6,7 +6,7 @@ use mathlib.Core.List.{List, [], _∷_, _++_, append-assoc, append-nil}
 use native.Mathlib.Omega.{arith}
 use native.Mathlib.Nat.{zero-add, add-zero}
 use lib.Dec.{eqb}
-use lib.ListN.{length, take, drop, length-drop}
+use lib.ListN.{length, take, drop, getD, length-drop}
 use lib.Seq.{drop-drop, take-all}
 use Rattle.fields.specs.Bytes.{wordsOfBytes}
 use Rattle.fields.specs.BytesLaws.{words-none, words-some, words-drop, words-le}
@@ -20,124 +20,16 @@ use Rattle.scan.specs.After.{startOf}
 use Rattle.reader.specs.Reader.{stepAt, withItem, judgeAt, Out, endNumber, outOf, Reading, then, just, onJudged, readFrom}
 use Rattle.reader.specs.ReaderLaws.{ended}
 use Rattle.reader.specs.RunLaws.{items-le, end-by}
-use Rattle.text.specs.Page.{Page, put}
-use Rattle.text.specs.PageLaws.{put-append}
-use Rattle.text.specs.Line.{Line, lineText, textOf}
-use Rattle.text.specs.LineLaws.{text-append, say-one, say-both}
-use Rattle.listing.specs.declared.Block.{Block}
+use Rattle.written.specs.Page.{Page, put}
+use Rattle.written.specs.PageLaws.{put-append}
+use Rattle.written.specs.Line.{Line, lineText, textOf}
+use Rattle.written.specs.LineLaws.{text-append, say-one, say-both}
+use Rattle.blocklines.specs.declared.Block.{Block}
 use Rattle.lines.specs.Lines.{refusedLine, fillLines}
 use Rattle.entries.specs.Entries.{recordLines, fillerIn}
-use Rattle.listing.specs.Listing.{itemLines, fillersIn, isWhole, outLines, blockLines, linesFrom}
-use Rattle.listing.specs.Says.{BlockSays, ReadingSays}
-
--- ---- words and bytes
-
--- a part that is lent, from i to the end
-pub tail-is : (bytes : List ℕ) (i : ℕ) → take (length bytes - i) (drop i bytes) ≡ drop i bytes
-tail-is bytes i = take-all (length bytes - i) (drop i bytes) (omega (arith, length-drop i bytes))
-
--- ---- a reading
-
--- no word is left
-pub read-end : (bytes : List ℕ) (i : ℕ) (s : Scan) {number : ℕ} → length bytes < i + 4 → number ≡ endNumber s → readFrom s (wordsOfBytes (drop i bytes)) ≡ just (outOf number (s .place))
-unfolding readFrom
-read-end bytes i s h e = ap (readFrom s) (words-none (drop i bytes) (omega (arith, length-drop i bytes))) ∙ ap just (end-by s ∙ ap (λ (n : ℕ). outOf n (s .place)) (sym e))
-
--- a block that is whole has a word
-start-judged : (word : ℕ) → J.Ended ≡ judgeAt startOf word → ⊥
-unfolding judgeAt
-start-judged word e = go (stepAt startOf word) refl e
-  where
-    go : (y : Step) → stepAt startOf word ≡ y → J.Ended ≡ withItem word y → ⊥
-    go (S.Went f u) i e = let z : _≡_ {A = ℕ} 0 1 = cc in omega arith
-    go (S.Refused n p) i e = let z : _≡_ {A = ℕ} 0 1 = cc in omega arith
-    go S.Ended i e = false≢true (sym (ended startOf word i))
-
-pub whole-some : (word : ℕ) (words : List ℕ) → isWhole ((readFrom startOf (word ∷ words)) .out) ≡ true → 0 < length ((readFrom startOf (word ∷ words)) .items)
-unfolding readFrom
-whole-some word words = go (judgeAt startOf word) refl
-  where
-    go : (j : Judged) → j ≡ judgeAt startOf word → isWhole ((onJudged j 0 (λ t. readFrom t words)) .out) ≡ true → 0 < length ((onJudged j 0 (λ t. readFrom t words)) .items)
-    go (J.Took x t) e h = omega arith
-    go (J.Refused n p) e h = absurd (false≢true h)
-    go J.Ended e h = absurd (start-judged word e)
-
--- ---- a block, word by word
-
--- the lines of what is left of a block, behind n fillers
-abbrev pub restLines : ℕ → Reading → List Line
-restLines n r = itemLines (r .items) ++ (fillLines (n + fillersIn (r .items)) ++ outLines (r .out))
-
--- of the block r, put from place at of text₀: `rest` is left, to be put from place k of text, n fillers and i bytes behind
-pub record Left (text₀ : List ℕ) (at : ℕ) (r : Reading) (text : List ℕ) (k n i : ℕ) (rest : Reading) : Type 0 where
-  pub page : put (text₀, at) (textOf (blockLines r)) ≡ put (text, k) (textOf (restLines n rest))
-  pub taken : 4 * length (r .items) ≡ i + 4 * length (rest .items)
-  pub ended : r .out ≡ rest .out
-
-pub left-all : (text : List ℕ) (at : ℕ) (r : Reading) → Left text at r text at 0 0 r
-unfolding blockLines
-left-all text at r = record { page = rw (zero-add (fillersIn (r .items))); taken = omega arith; ended = refl }
-
-module _ {text₀ : List ℕ} {at : ℕ} {r : Reading} {text : List ℕ} {k n i : ℕ} where
-  pub left-is : {rest rest′ : Reading} → Left text₀ at r text k n i rest → rest ≡ rest′ → Left text₀ at r text k n i rest′
-  left-is l e = rw e at l
-
-  -- a record is put
-  left-less : {x : Item} {rest : Reading} {text′ : List ℕ} {k′ m : ℕ} → Left text₀ at r text k n i (then x rest)
-      → _≡_ {A = Page} (text′, k′) (put (text, k) (textOf (recordLines x (rest .items)))) → m ≡ fillerIn x → Left text₀ at r text′ k′ (n + m) (i + 4) rest
-  unfolding itemLines fillersIn
-  left-less {x} {rest} {text′} {k′} {m} l p e =
-      record {
-        page = l .page ∙ ap (λ (ls : List Line). put (text, k) (textOf ls)) lines ∙ ap (put (text, k)) (text-append one (restLines (n + m) rest)) ∙ put-append (text, k) (textOf one) (textOf (restLines (n + m) rest)) ∙ ap (λ (q : Page). put q (textOf (restLines (n + m) rest))) (sym p);
-        taken = l .taken ∙ omega arith;
-        ended = l .ended;
-      }
-    where
-      one : List Line
-      one = recordLines x (rest .items)
-
-      count : n + (fillerIn x + fillersIn (rest .items)) ≡ n + m + fillersIn (rest .items)
-      count = omega (arith, e)
-
-      lines : restLines n (then x rest) ≡ one ++ restLines (n + m) rest
-      lines = append-assoc one (itemLines (rest .items)) _ ∙ ap (λ (c : ℕ). one ++ (itemLines (rest .items) ++ (fillLines c ++ outLines (rest .out)))) count
-
-  -- the record of the word at i is put, by the part of the bytes behind it
-  pub left-took : (bytes : List ℕ) (t : Scan) {x : Item} {text′ : List ℕ} {k′ m : ℕ} → Left text₀ at r text k n i (then x (readFrom t (wordsOfBytes (drop (i + 4) bytes))))
-      → _≡_ {A = Page} (text′, k′) (put (text, k) (textOf (recordLines x ((readFrom t (wordsOfBytes (take (length bytes - (i + 4)) (drop (i + 4) bytes)))) .items)))) → m ≡ fillerIn x
-      → Left text₀ at r text′ k′ (n + m) (i + 4) (readFrom t (wordsOfBytes (drop (i + 4) bytes)))
-  left-took bytes t {x} l p e =
-      left-less l (p ∙ ap (λ (b : List ℕ). put (text, k) (textOf (recordLines x ((readFrom t (wordsOfBytes b)) .items)))) (tail-is bytes (i + 4))) e
-
-  -- a record of one line, and no filler, is put
-  pub left-line : {x : Item} {rest : Reading} {text′ : List ℕ} {k′ : ℕ} (l : Line) → Left text₀ at r text k n i (then x rest)
-      → _≡_ {A = Page} (text′, k′) (put (text, k) (lineText l)) → recordLines x (rest .items) ≡ l ∷ [] → fillerIn x ≡ 0 → Left text₀ at r text′ k′ n (i + 4) rest
-  left-line l h p e f = rw (add-zero n) at (left-less h (say-one _ _ _ l p e) (sym f))
-
-  -- nothing is left but the block's end
-  pub left-none : {o : Out} {b : Block} {text′ : List ℕ} → Left text₀ at r text k n i (just o) → BlockSays text k (fillLines n ++ outLines o) i o b text′ → ReadingSays text₀ at r b text′
-  unfolding itemLines fillersIn
-  left-none {o} l s =
-      record {
-        page = s .page ∙ ap (λ (c : ℕ). put (text, k) (textOf (fillLines c ++ outLines o))) (sym (add-zero n)) ∙ sym (l .page);
-        taken = s .taken ∙ omega (arith, l .taken);
-        ended = s .ended ∙ ap isWhole (sym (l .ended));
-      }
-
--- ---- a block's end, put by its number
-
-module _ (fillers number place : ℕ) {text : List ℕ} {at : ℕ} {text₁ : List ℕ} {k i : ℕ} where
-  pub stopped-whole : eqb number 0 ≡ true → _≡_ {A = Page} (text₁, k) (put (text, at) (textOf (fillLines fillers)))
-      → BlockSays text at (fillLines fillers ++ outLines (outOf number place)) i (outOf number place) (record { at = k; bytes = i; whole = true }) text₁
-  stopped-whole e p = rw e (record { page = p ∙ ap (λ (ls : List Line). put (text, at) (textOf ls)) (sym (append-nil (fillLines fillers))); taken = refl; ended = refl })
-
-  pub stopped-broken : eqb number 0 ≡ false → _≡_ {A = Page} (text₁, k) (put (text, at) (textOf (fillLines fillers)))
-      → {text₂ : List ℕ} {m : ℕ} → _≡_ {A = Page} (text₂, m) (put (text₁, k) (lineText (refusedLine number place)))
-      → BlockSays text at (fillLines fillers ++ outLines (outOf number place)) i (outOf number place) (record { at = m; bytes = i; whole = false }) text₂
-  stopped-broken e p {text₂} {m} q =
-      rw e (record { page = say-both (text, at) (text₁, k) (text₂, m) (fillLines fillers) (refusedLine number place ∷ []) p (say-one (text₁, k) (text₂, m) _ (refusedLine number place) q refl); taken = refl; ended = refl })
-
--- ---- blocks one after another
+use Rattle.blocklines.specs.BlockLines.{isWhole, blockLines, ReadingSays}
+use Rattle.blocklines.specs.BlockLaws.{tail-is, whole-some}
+use Rattle.listing.specs.Listing.{linesFrom}
 
 skipped : (n : ℕ) (words : List ℕ) → linesFrom n words ≡ linesFrom 0 (drop n words)
 unfolding linesFrom

@@ -4,5 +4,3 @@ pub mod Says
 pub mod BlockLaws
 pub mod RoomLaws
 pub mod MostLaws
-pub mod Quick
-pub mod QuickLaws

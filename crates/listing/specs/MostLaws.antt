@@ -32,17 +32,18 @@ use Rattle.reader.specs.declared.Step.the-variants as S
 use Rattle.fields.specs.WordLaws.{field-lt}
 use Rattle.fields.specs.Bytes.{wordsOfBytes}
 use Rattle.fields.specs.BytesLaws.{words-le}
-use Rattle.text.specs.Line.{Cell, Number, cellOf, Line, lineOf}
-use Rattle.text.specs.LengthLaws.{Below, most, size, size-none, size-both, size-one}
+use Rattle.written.specs.Line.{Cell, Number, cellOf, Line, lineOf}
+use Rattle.written.specs.LengthLaws.{Below, most, size, size-none, size-both, size-one}
 use Rattle.lines.specs.declared.Second.{Second}
 use Rattle.lines.specs.declared.Second.the-variants as N
 use Rattle.listing.specs.declared.Listed.{Listed}
 use Rattle.listing.specs.declared.Listed.the-variants as L
 use Rattle.lines.specs.Lines.{blockName, setupName, eventName, clockName, clock27Name, windowName, pulseName, pairName, integralName, timeName, pedName, endName, fillName, emptyName, refusedName, refusedLine, fillLines, clockLine}
 use Rattle.entries.specs.Entries.{highIn, secondOf, recordLines, fillerIn}
-use Rattle.listing.specs.Listing.{itemLines, fillersIn, isWhole, outLines, blockLines, linesFrom, cutWrong, lengthWrong, linesUnless, listingOf, longListingOf}
+use Rattle.blocklines.specs.BlockLines.{itemLines, fillersIn, isWhole, outLines, blockLines}
+use Rattle.listing.specs.Listing.{linesFrom, cutWrong, lengthWrong, linesUnless, listingOf, longListingOf}
 use Rattle.listing.specs.Says.{listedNumber, counted, ListSays}
-use Rattle.listing.specs.BlockLaws.{whole-some}
+use Rattle.blocklines.specs.BlockLaws.{whole-some}
 
 -- ---- one record
 

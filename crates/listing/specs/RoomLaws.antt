@@ -7,8 +7,8 @@ use native.Mathlib.Omega.{arith}
 use lib.ListN.{length, drop, take, length-append}
 use lib.Seq.{length-take-le}
 use Rattle.ground.specs.ResultLaws.{one-result}
-use Rattle.text.specs.Page.{Page, farthest, put}
-use Rattle.text.specs.PageLaws.{all-fits, none-put, none-count, short, fitting}
+use Rattle.written.specs.Page.{Page, farthest, put}
+use Rattle.written.specs.PageLaws.{all-fits, none-put, none-count, short, fitting}
 use Rattle.listing.specs.declared.Listed.{Listed}
 use Rattle.listing.specs.declared.Listed.the-variants as L
 use Rattle.listing.specs.Says.{listedNumber, listedValue, textHasRoom, counted, TextSays, ListSays, LongSays, LengthSays}

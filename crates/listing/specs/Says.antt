@@ -1,27 +1,13 @@
 -- What the lister's functions promise of their answers and of the lent buffer. Assumes nothing.
-use Prim.Native.Nat.{ℕ, _*_, min}
+use Prim.Native.Nat.{ℕ, min}
 use mathlib.Core.Path.{_≡_}
 use mathlib.Core.Bool.{Bool, cond}
 use mathlib.Core.List.{List, _++_}
 use lib.Dec.{leb}
 use lib.ListN.{length, drop}
-use Rattle.reader.specs.Reader.{Out, Reading}
-use Rattle.text.specs.Page.{Page, farthest, put}
-use Rattle.text.specs.Line.{Line, textOf}
-use Rattle.listing.specs.Listing.{isWhole, blockLines}
-use Rattle.listing.specs.declared.Block.{Block}
+use Rattle.written.specs.Page.{farthest}
 use Rattle.listing.specs.declared.Listed.{Listed}
 use Rattle.listing.specs.declared.Listed.the-variants as L
-
--- a block's lines are put, it takes so many bytes, it ends so
-pub record BlockSays (text : List ℕ) (at : ℕ) (lines : List Line) (size : ℕ) (out : Out) (r : Block) (text′ : List ℕ) : Type 0 where
-  pub page : _≡_ {A = Page} (text′, r .at) (put (text, at) (textOf lines))
-  pub taken : r .bytes ≡ size
-  pub ended : r .whole ≡ isWhole out
-
--- the same of a block's reading
-abbrev pub ReadingSays : List ℕ → ℕ → Reading → Block → List ℕ → Type 0
-ReadingSays text at r b text′ = BlockSays text at (blockLines r) (4 * length (r .items)) (r .out) b text′
 
 -- the paper's number of an answer: 9, a "buffer too short for all that call writes", 0 for a text
 abbrev pub listedNumber : Listed → ℕ

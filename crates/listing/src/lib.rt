@@ -1,20 +1,11 @@
 // The lister: the lines of the records of an input, as text in a lent buffer.
 ghost use mathlib.Core.Path.{_≡_};
-ghost use mathlib.Core.List.{_++_};
-ghost use Rattle.scan.specs.After.{startOf};
-ghost use Rattle.reader.specs.Reader.{readFrom, outOf};
 ghost use Rattle.fields.specs.Bytes.{wordsOfBytes};
-ghost use Rattle.text.specs.Page.{put};
-ghost use Rattle.text.specs.Line.{textOf};
-ghost use Rattle.lines.specs.Lines.{fillLines};
-ghost use Rattle.listing.specs.Listing.{outLines, linesFrom, linesUnless, listingOf, longListingOf};
-ghost use Rattle.listing.specs.Says.{BlockSays, ReadingSays, ListSays, LongSays};
-use quick::Quick;
-use reader::Judged;
+ghost use Rattle.written.specs.Page.{put};
+ghost use Rattle.written.specs.Line.{textOf};
+ghost use Rattle.listing.specs.Listing.{linesFrom, linesUnless, listingOf, longListingOf};
+ghost use Rattle.listing.specs.Says.{ListSays, LongSays};
 use refusals::Refusal;
-use scan::Scan;
-
-mod quick;
 
 // The most bytes of an input of the lister.
 pub const LONGEST: usize = 65536;
@@ -22,72 +13,10 @@ pub const LONGEST: usize = 65536;
 // The most bytes of the text of a word; a refusal behind them has at most one fewer.
 const WORD_MOST: usize = 23;
 
-// What one block leaves: the next place of the text, the bytes that it takes, whether it is whole.
-pub struct Block {
-    pub at: usize,
-    pub bytes: usize,
-    pub whole: bool,
-}
-
 // The text's length; or, where the lent buffer is too short for it, the length that it needs.
 pub enum Listed {
     Text(usize),
     NoRoom(usize),
-}
-
-// The last lines of a block of so many bytes: its fillers, then a refusal; the number 0 is none.
-fn stop(text: &mut [u8], at: usize, fillers: u64, number: u32, place: u32, bytes: usize) -> Block
-    ensures { λ r. ⌜ BlockSays (now (text .entry)) at (fillLines fillers ++ outLines (outOf number place)) bytes (outOf number place) r (now (text .exit)) ⌝ }
-{
-    let filled = lines::put_fill(text, at, fillers);
-    if number == 0 {
-        return Block {
-            at: filled,
-            bytes: bytes,
-            whole: true,
-        };
-    }
-    Block {
-        at: lines::put_refused(text, filled, number, place),
-        bytes: bytes,
-        whole: false,
-    }
-}
-
-// The lines of the first block of the bytes.
-fn list_block(bytes: &[u8], text: &mut [u8], from: usize) -> Block
-    ensures { λ r. ⌜ ReadingSays (now (text .entry)) from (readFrom startOf (wordsOfBytes (now (bytes .entry)))) r (now (text .exit)) ⌝ }
-{
-    let mut scan = Scan::start();
-    let mut next: usize = 0;
-    let mut at = from;
-    let mut fillers: u64 = 0;
-    while 4 <= bytes.len() - next {
-        let word = entries::first_word(&bytes[next..]);
-        let glance = quick::glance(scan, word);
-        if let Quick::Took(kind, after) = glance {
-            at = quick::put_quick(text, at, kind, word);
-            next += 4;
-            scan = after;
-            continue;
-        }
-        let judged = reader::judge_at(scan, word);
-        match judged {
-            Judged::Took(item, after) => {
-                next += 4;
-                at = entries::list_item(text, at, item, &bytes[next..], after);
-                fillers += entries::filler_in(item);
-                scan = after;
-            }
-            Judged::Refused(number, place) => {
-                return stop(text, at, fillers, number, place, next);
-            }
-            Judged::Ended => {
-                return stop(text, at, fillers, 0, scan.place, next);
-            }
-        }
-    }
-    stop(text, at, fillers, reader::at_end(scan), scan.place, next)
 }
 
 // The lines of all blocks of the bytes, up to the first refusal.
@@ -97,7 +26,7 @@ fn list_blocks(bytes: &[u8], text: &mut [u8]) -> usize
     let mut next: usize = 0;
     let mut at: usize = 0;
     while 4 <= bytes.len() - next {
-        let block = list_block(&bytes[next..], text, at);
+        let block = blocklines::list_block(&bytes[next..], text, at);
         at = block.at;
         if block.whole {
             next += block.bytes;

@@ -16,8 +16,8 @@ use Rattle.raw.specs.declared.pair.SamplePair.{SamplePair}
 use Rattle.raw.specs.Words.{pairOf}
 use Rattle.rawitems.specs.declared.Pairs.{Pairs}
 use Rattle.rawitems.specs.Pairs.{partOf}
-use Rattle.text.specs.Page.{Page, farthest, put}
-use Rattle.text.specs.PageLaws.{put-nil, put-append, put-then, none-put, none-count, short, fitting}
+use Rattle.written.specs.Page.{Page, farthest, put}
+use Rattle.written.specs.PageLaws.{put-nil, put-append, put-then, none-put, none-count, short, fitting}
 use Rattle.rawsamples.specs.RawSamples.{ifValid, samplesOfPair, samplesOf}
 use Rattle.rawsamples.specs.Says.{SamplesSay}
 

@@ -1,7 +1,7 @@
 // The samples of a raw item, unpacked from its pairs into a lent array. What has no room is counted and not written.
 ghost use Prim.Native.Nat.{_<_};
 ghost use mathlib.Core.Path.{_≡_};
-ghost use Rattle.text.specs.Page.{put};
+ghost use Rattle.written.specs.Page.{put};
 ghost use Rattle.rawitems.specs.Pairs.{partOf};
 ghost use Rattle.rawsamples.specs.RawSamples.{ifValid, samplesOfPair, samplesOf};
 ghost use Rattle.rawsamples.specs.Says.{SamplesSay};

@@ -1,126 +1,16 @@
 // Lines of text put on a lent page. What has no room is counted and not written.
-ghost use Prim.Native.Nat.{_+_, _*_, _≤_, _<_};
 ghost use mathlib.Core.Path.{_≡_};
-ghost use mathlib.Core.Bool.{true};
 ghost use mathlib.Core.List.{[], _∷_};
-ghost use lib.ListN.{length};
-ghost use Rattle.io.specs.Digits.{digits};
-ghost use Rattle.text.specs.Page.{put};
-ghost use Rattle.text.specs.Line.{decimal, cellOf, cellText, cellsOf, cellsText, lineOf, lineText};
-
-const TAB: u8 = 9;
+ghost use Rattle.written.specs.Page.{put};
+ghost use Rattle.written.specs.Line.{cellOf, cellText, cellsOf, cellsText, lineOf, lineText};
+use written::Put;
 
 const LINE_FEED: u8 = 10;
-
-const DASH: u8 = 45;
-
-const ZERO: u8 = 48;
 
 // Past the page's end the place grows up to this number and stays; no page is so long.
 pub const FARTHEST: usize = 9223372036854775808;
 
-// Every writer has this contract: the page before, the bytes put, the page after. One that is named write_ asks for room, and
-// tells how far it came; it tests nothing.
-fn write_byte(text: &mut [u8], at: usize, b: u8) -> usize
-    requires { ⌜ at < length (now text) ⌝ }
-    ensures { λ r. ⌜ ((now (text .exit), r) ≡ put (now (text .entry), at) (b ∷ [])) × (r ≡ at + 1) ⌝ }
-{
-    text[at] = b;
-    at + 1
-}
-
-fn write_bytes(text: &mut [u8], at: usize, s: &[u8]) -> usize
-    requires { ⌜ at + length (now s) ≤ length (now text) ⌝ }
-    ensures { λ r. ⌜ ((now (text .exit), r) ≡ put (now (text .entry), at) (now (s .entry))) × (r ≡ at + length (now (s .entry))) ⌝ }
-{
-    let mut i = 0;
-    let mut k = at;
-    while i < s.len() {
-        k = write_byte(text, k, s[i]);
-        i += 1;
-    }
-    k
-}
-
-// The last digit of n, the last two, the last three.
-fn write_digit(text: &mut [u8], at: usize, n: u64) -> usize
-    requires { ⌜ at < length (now text) ⌝ }
-    ensures { λ r. ⌜ ((now (text .exit), r) ≡ put (now (text .entry), at) (digits 10 1 n)) × (r ≡ at + 1) ⌝ }
-{
-    write_byte(text, at, ZERO + (n % 10) as u8)
-}
-
-fn write_two(text: &mut [u8], at: usize, n: u64) -> usize
-    requires { ⌜ at + 2 ≤ length (now text) ⌝ }
-    ensures { λ r. ⌜ ((now (text .exit), r) ≡ put (now (text .entry), at) (digits 10 2 n)) × (r ≡ at + 2) ⌝ }
-{
-    let k = write_digit(text, at, n / 10);
-    write_digit(text, k, n)
-}
-
-fn write_three(text: &mut [u8], at: usize, n: u64) -> usize
-    requires { ⌜ at + 3 ≤ length (now text) ⌝ }
-    ensures { λ r. ⌜ ((now (text .exit), r) ≡ put (now (text .entry), at) (digits 10 3 n)) × (r ≡ at + 3) ⌝ }
-{
-    let k = write_two(text, at, n / 10);
-    write_digit(text, k, n)
-}
-
-// Most numbers are short, and need no loop.
-fn write_number(text: &mut [u8], at: usize, n: u64) -> usize
-    requires { ⌜ at + 20 ≤ length (now text) ⌝ }
-    ensures { λ r. ⌜ ((now (text .exit), r) ≡ put (now (text .entry), at) (decimal n)) × (r ≤ at + 20) ⌝ }
-{
-    if n < 10 {
-        return write_digit(text, at, n);
-    }
-    if n < 100 {
-        return write_two(text, at, n);
-    }
-    if n < 1000 {
-        return write_three(text, at, n);
-    }
-    let mut digits = [0u8; 20];
-    let count = io::decimal(n, &mut digits);
-    write_bytes(text, at, &digits[..count])
-}
-
-// A tab, then the number or a dash.
-fn write_cell(text: &mut [u8], at: usize, dash: bool, n: u64) -> usize
-    requires { ⌜ at + 21 ≤ length (now text) ⌝ }
-    ensures { λ r. ⌜ ((now (text .exit), r) ≡ put (now (text .entry), at) (9 ∷ cellText (cellOf dash n))) × (r ≤ at + 21) ⌝ }
-{
-    let k = write_byte(text, at, TAB);
-    if dash {
-        return write_byte(text, k, DASH);
-    }
-    write_number(text, k, n)
-}
-
-fn write_cells(text: &mut [u8], at: usize, cells: &[u64], dashes: u32) -> usize
-    requires { ⌜ at + 21 * length (now cells) ≤ length (now text) ⌝ }
-    ensures { λ r. ⌜ ((now (text .exit), r) ≡ put (now (text .entry), at) (cellsText (cellsOf dashes (now (cells .entry))))) × (r ≤ at + 21 * length (now (cells .entry))) ⌝ }
-{
-    let mut i = 0;
-    let mut k = at;
-    let mut marks = dashes;
-    while i < cells.len() {
-        k = write_cell(text, k, marks % 2 == 1, cells[i]);
-        marks /= 2;
-        i += 1;
-    }
-    k
-}
-
-fn write_line(text: &mut [u8], at: usize, name: &[u8], cells: &[u64], dashes: u32) -> usize
-    requires { ⌜ at + length (now name) + 21 * length (now cells) < length (now text) ⌝ }
-    ensures { λ r. ⌜ (now (text .exit), r) ≡ put (now (text .entry), at) (lineText (lineOf (now (name .entry)) (cellsOf dashes (now (cells .entry))))) ⌝ }
-{
-    let k = write_bytes(text, at, name);
-    let m = write_cells(text, k, cells, dashes);
-    write_byte(text, m, LINE_FEED)
-}
-
+// Every writer has this contract: the page before, the bytes put, the page after.
 fn put_byte(text: &mut [u8], at: usize, b: u8) -> usize
     ensures { λ r. ⌜ (now (text .exit), r) ≡ put (now (text .entry), at) (b ∷ []) ⌝ }
 {
@@ -147,9 +37,10 @@ fn put_bytes(text: &mut [u8], at: usize, s: &[u8]) -> usize
 fn put_cell(text: &mut [u8], at: usize, dash: bool, n: u64) -> usize
     ensures { λ r. ⌜ (now (text .exit), r) ≡ put (now (text .entry), at) (9 ∷ cellText (cellOf dash n)) ⌝ }
 {
-    let mut cell = [0u8; 21];
-    let count = write_cell(&mut cell, 0, dash, n);
-    put_bytes(text, at, &cell[..count])
+    let cell = written::cell(dash, n);
+    let bytes = cell.bytes;
+    let count = cell.count;
+    put_bytes(text, at, &bytes[..count])
 }
 
 fn put_cells(text: &mut [u8], at: usize, cells: &[u64], dashes: u32) -> usize
@@ -166,22 +57,13 @@ fn put_cells(text: &mut [u8], at: usize, cells: &[u64], dashes: u32) -> usize
     k
 }
 
-// Whether a line of a name of 8 bytes and five cells has room, and this one is no longer.
-fn has_room(room: usize, at: usize, name: usize, cells: usize) -> bool
-    ensures { λ r. ⌜ (r ≡ true → at + name + 21 * cells < room) ⌝ }
-{
-    if room <= at {
-        return false;
-    }
-    (name <= 8) & (cells <= 5) & (114 <= room - at)
-}
-
 // A name, its cells, a line feed. Bit i of `dashes` is set where cell i is a dash.
 pub fn put_line(text: &mut [u8], at: usize, name: &[u8], cells: &[u64], dashes: u32) -> usize
     ensures { λ r. ⌜ (now (text .exit), r) ≡ put (now (text .entry), at) (lineText (lineOf (now (name .entry)) (cellsOf dashes (now (cells .entry))))) ⌝ }
 {
-    if has_room(text.len(), at, name.len(), cells.len()) {
-        return write_line(text, at, name, cells, dashes);
+    let line = written::line(text, at, name, cells, dashes);
+    if let Put::At(k) = line {
+        return k;
     }
     let k = put_bytes(text, at, name);
     let m = put_cells(text, k, cells, dashes);

@@ -1,6 +1,6 @@
 -- `lines::put_fill` meets its contract: no line, or one.
 use borrow.Author.Tests.{eq-eqb, ne-eqb}
-use Rattle.text.specs.LineLaws.{say-none, say-one}
+use Rattle.written.specs.LineLaws.{say-none, say-one}
 use borrow.Author.Needs.{needs}
 use Rattle.lines.proofs.put_fill.Statement.{statement}
 use Rattle.lines.proofs.put_fill.Tie as tie

@@ -5,9 +5,9 @@ use native.Mathlib.Omega.{arith}
 use borrow.Author.Needs.{needs}
 use lib.ListN.{length, drop}
 use Rattle.fields.specs.Bytes.{wordsOfBytes}
-use Rattle.text.specs.Page.{put}
-use Rattle.text.specs.Line.{textOf}
-use Rattle.text.specs.LineLaws.{say-none}
+use Rattle.written.specs.Page.{put}
+use Rattle.written.specs.Line.{textOf}
+use Rattle.written.specs.LineLaws.{say-none}
 use Rattle.listing.specs.Listing.{linesFrom}
 use Rattle.listing.specs.BlockLaws.{blocks-none, block-within, block-some, block-next, block-last}
 use Rattle.listing.proofs.list_blocks.Statement.{statement}

@@ -1,5 +1,5 @@
 -- `listing::put_listing` meets its contract: refusal 16 alone, or all blocks.
-use Rattle.text.specs.LineLaws.{say-one}
+use Rattle.written.specs.LineLaws.{say-one}
 use Rattle.listing.specs.Listing.{linesUnless}
 use borrow.Author.Needs.{needs}
 use Rattle.listing.proofs.put_listing.Statement.{statement}

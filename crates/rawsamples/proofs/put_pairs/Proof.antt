@@ -4,7 +4,7 @@ use mathlib.Core.Path.{_≡_, refl, sym, _∙_}
 use borrow.Author.Needs.{needs}
 use native.Mathlib.Omega.{arith}
 use lib.ListN.{length, drop}
-use Rattle.text.specs.Page.{put}
+use Rattle.written.specs.Page.{put}
 use Rattle.rawsamples.specs.RawSamples.{samplesOf}
 use Rattle.rawsamples.specs.RawSamplesLaws.{pairs-turn, pairs-done}
 use Rattle.rawsamples.proofs.put_pairs.Statement.{statement}

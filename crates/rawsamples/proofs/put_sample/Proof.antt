@@ -1,7 +1,7 @@
 -- `rawsamples::put_sample` meets its contract: a sample that is marked, one that has room, one past the end, one at the farthest place.
 use native.Mathlib.Omega.{arith}
 use borrow.Author.Needs.{needs}
-use Rattle.text.specs.PageLaws.{put-here, put-past, put-stay}
+use Rattle.written.specs.PageLaws.{put-here, put-past, put-stay}
 use Rattle.rawsamples.specs.RawSamplesLaws.{marked, unmarked}
 use Rattle.rawsamples.proofs.put_sample.Statement.{statement}
 use Rattle.rawsamples.proofs.put_sample.Tie as tie

@@ -1,7 +1,7 @@
 -- `text::put_byte` meets its contract: a byte that has room, one past the end, one at the farthest place.
 use borrow.Author.Needs.{needs}
 use native.Mathlib.Omega.{arith}
-use Rattle.text.specs.PageLaws.{put-here, put-past, put-stay}
+use Rattle.written.specs.PageLaws.{put-here, put-past, put-stay}
 use Rattle.text.proofs.put_byte.Statement.{statement}
 use Rattle.text.proofs.put_byte.Tie as tie
 

@@ -4,8 +4,8 @@ use mathlib.Core.Path.{_≡_, refl, sym, _∙_}
 use borrow.Author.Needs.{needs}
 use native.Mathlib.Omega.{arith}
 use lib.ListN.{length, drop}
-use Rattle.text.specs.Page.{put}
-use Rattle.text.specs.PageLaws.{put-turn, put-done}
+use Rattle.written.specs.Page.{put}
+use Rattle.written.specs.PageLaws.{put-turn, put-done}
 use Rattle.text.proofs.put_bytes.Statement.{statement}
 use Rattle.text.proofs.put_bytes.Tie as tie
 

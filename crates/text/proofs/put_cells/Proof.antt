@@ -4,9 +4,9 @@ use mathlib.Core.Path.{_≡_, refl, sym, _∙_}
 use borrow.Author.Needs.{needs}
 use native.Mathlib.Omega.{arith}
 use lib.ListN.{length, drop}
-use Rattle.text.specs.Page.{put}
-use Rattle.text.specs.Line.{cellsText, cellsOf}
-use Rattle.text.specs.LineLaws.{cells-turn, cells-done}
+use Rattle.written.specs.Page.{put}
+use Rattle.written.specs.Line.{cellsText, cellsOf}
+use Rattle.written.specs.LineLaws.{cells-turn, cells-done}
 use Rattle.text.proofs.put_cells.Statement.{statement}
 use Rattle.text.proofs.put_cells.Tie as tie
 
