@@ -26,7 +26,7 @@ use Rattle.items.specs.ItemsLaws.{put-written, loop-room, loop-less, loop-none}
 use Rattle.pulse.specs.declared.Parts.{Parts}
 use Rattle.pulse.specs.Pulse.{setOf, rawItems, integralItem, timeItem, pedestalItem, pulseItems, fitsIn}
 use Rattle.pulse.specs.PulseLaws.{fits-in}
-use Rattle.channel.specs.Channel.{pulsesItems}
+use Rattle.modes.specs.Channel.{pulsesItems}
 use Rattle.channel.specs.Inner.{noBase}
 
 -- ---- what the mode writes of a pulse is what it writes of all that can be asked of it

@@ -1,6 +1,4 @@
 // The words of one channel, put into a lent buffer.
-mod count;
-
 use items::Item;
 use items::put::room_short;
 use pulse::Parts;
@@ -11,7 +9,7 @@ ghost use mathlib.Core.Path.{_≡_};
 ghost use mathlib.Core.Bool.{true, cond};
 ghost use mathlib.Core.List.{[]};
 ghost use Prim.Native.Nat.{_+_, _≤_};
-ghost use lib.Dec.{ltb, leb};
+ghost use lib.Dec.{ltb};
 ghost use lib.ListN.{length};
 ghost use Rattle.ground.specs.Splice.{Written, WrittenIf};
 ghost use Rattle.limits.specs.Limits.{mostSamples};
@@ -19,36 +17,9 @@ ghost use Rattle.search.specs.Search.{tcFrom};
 ghost use Rattle.timing.specs.ByBase.{baseOf};
 ghost use Rattle.finder.specs.Find.{pulsesFrom, searchable};
 ghost use Rattle.items.specs.Items.{wordsOf};
-ghost use Rattle.channel.specs.Channel.{windowItems, partsOf, pulsesItems, commonOf, channelItems, channelWords, modeMost};
-ghost use Rattle.channel.specs.Inner.{noBase, limitFor, channelLength};
-
-fn writing(window: bool, raw: bool, integral: bool, time: bool, high: bool, pedestal: bool) -> Parts
-    ensures { λ r. ⌜ r ≡ record { window = window; raw = raw; integral = integral; time = time; high = high; pedestal = pedestal } ⌝ }
-{
-    Parts {
-        window,
-        raw,
-        integral,
-        time,
-        high,
-        pedestal,
-    }
-}
-
-// The mode's row.
-fn parts_of(mode: u32) -> Parts
-    ensures { λ r. ⌜ r ≡ partsOf mode ⌝ }
-{
-    match mode {
-        1 => writing(true, false, false, false, false, false),
-        2 => writing(false, true, false, false, false, false),
-        3 => writing(false, false, true, true, false, false),
-        4 => writing(false, false, false, true, true, true),
-        7 => writing(false, false, true, true, true, true),
-        8 => writing(true, false, false, true, true, true),
-        _ => writing(false, false, false, false, false, false),
-    }
-}
+ghost use Rattle.modes.specs.Channel.{windowItems, pulsesItems, commonOf, channelItems, channelWords};
+ghost use Rattle.modes.specs.Inner.{channelLength};
+ghost use Rattle.channel.specs.Inner.{noBase};
 
 // The TC that the search from s finds; the first one was found before.
 fn tc_after(first: usize, row: &[u16], threshold: u32, s: usize) -> usize
@@ -126,17 +97,6 @@ fn put_window_if(words: &mut [u32], at: usize, on: bool, channel: u32, row: &[u1
     }
 }
 
-// The pulses that the mode writes of: where it writes of none, none is searched for.
-fn limit_for(parts: Parts, limit: usize) -> usize
-    ensures { λ r. ⌜ r ≡ limitFor parts limit ⌝ }
-{
-    if parts.raw | parts.integral | parts.time | parts.pedestal {
-        limit
-    } else {
-        0
-    }
-}
-
 // The words of a channel that has a pulse, and room: the window where the mode writes it, then the pulses.
 fn put_found(
     words: &mut [u32],
@@ -154,8 +114,8 @@ fn put_found(
     requires { ⌜ at + length (channelItems (record { mode = mode; nsb = nsb; nsa = nsa; limit = limit }) threshold channel (now row)) ≤ length (now words) ⌝ }
     ensures { λ r. ⌜ Written (now (words .entry)) at (channelWords (record { mode = mode; nsb = nsb; nsa = nsa; limit = limit }) threshold channel (now (row .entry))) r (now (words .exit)) ⌝ }
 {
-    let parts = parts_of(mode);
-    let most = limit_for(parts, limit);
+    let parts = modes::parts_of(mode);
+    let most = modes::limit_for(parts, limit);
     let window = put_window_if(words, at, parts.window, channel, row);
     put_pulses(
         words,
@@ -171,56 +131,15 @@ fn put_found(
     )
 }
 
-// How many words that is.
-fn count_found(
-    mode: u32,
-    nsb: usize,
-    nsa: usize,
-    limit: usize,
-    threshold: u32,
-    row: &[u16],
-) -> usize
-    requires { ⌜ (searchable (length (now row)) nsa limit ≡ true) × (1 ≤ tcFrom (now row) threshold 0) ⌝ }
-    ensures { λ r. ⌜ r ≡ channelLength (record { mode = mode; nsb = nsb; nsa = nsa; limit = limit }) threshold (now (row .entry)) ⌝ }
-{
-    let parts = parts_of(mode);
-    let most = limit_for(parts, limit);
-    let found = finder::pulses_of(row, threshold, nsb, nsa, most);
-    pairs::run_length_if(parts.window, row.len()) + count::pulses_length(parts, found, row.len())
-}
-
-// No channel of so many samples takes more words in the mode; 0 where no window has so many.
-pub fn most_words(mode: u32, samples: usize) -> usize
-    ensures { λ r. ⌜ r ≡ cond (leb samples mostSamples) (modeMost mode samples) 0 ⌝ }
-{
-    if samples <= limits::MOST_SAMPLES {
-        let parts = parts_of(mode);
-        let window = pairs::run_length_if(parts.window, samples);
-        let pulse = pulse::set_length(parts, samples);
-        return window + 3 * pulse;
-    }
-    0
-}
-
 // Fewer words are left than the channel takes. Where there is room for the longest in the mode, nothing is counted.
-fn channel_short(
-    room: usize,
-    at: usize,
-    mode: u32,
-    nsb: usize,
-    nsa: usize,
-    limit: usize,
-    threshold: u32,
-    row: &[u16],
-) -> bool
-    requires { ⌜ (searchable (length (now row)) nsa limit ≡ true) × (1 ≤ tcFrom (now row) threshold 0) ⌝ }
-    ensures { λ r. ⌜ r ≡ ltb room (at + channelLength (record { mode = mode; nsb = nsb; nsa = nsa; limit = limit }) threshold (now (row .entry))) ⌝ }
+fn channel_short(room: usize, at: usize, settings: Settings, threshold: u32, row: &[u16]) -> bool
+    requires { ⌜ searchable (length (now row)) (settings .nsa) (settings .limit) ≡ true ⌝ }
+    ensures { λ r. ⌜ r ≡ ltb room (at + channelLength (commonOf settings) threshold (now (row .entry))) ⌝ }
 {
-    if !room_short(room, at, most_words(mode, row.len())) {
+    if !room_short(room, at, modes::most_words(settings.mode, row.len())) {
         return false;
     }
-    let count = count_found(mode, nsb, nsa, limit, threshold, row);
-    room_short(room, at, count)
+    room_short(room, at, modes::channel_length(settings, threshold, row))
 }
 
 // The words of a channel: of the common settings, its own threshold, its number and its window. Without a sample over there are none.
@@ -245,7 +164,7 @@ pub fn put_channel(
     if first == 0 {
         return at;
     }
-    if channel_short(words.len(), at, mode, nsb, nsa, limit, threshold, row) {
+    if channel_short(words.len(), at, settings, threshold, row) {
         return at;
     }
     put_found(
@@ -259,25 +178,5 @@ pub fn put_channel(
         channel,
         row,
         first,
-    )
-}
-
-// How many words that is, whatever the channel's number.
-pub fn channel_length(settings: Settings, threshold: u32, row: &[u16]) -> usize
-    ensures { λ r. ⌜ r ≡ cond (searchable (length (now (row .entry))) (settings .nsa) (settings .limit)) (length (channelItems (commonOf settings) threshold 0 (now (row .entry)))) 0 ⌝ }
-{
-    if !finder::can_search(row.len(), settings.nsa, settings.limit) {
-        return 0;
-    }
-    if !search::any_over(row, threshold) {
-        return 0;
-    }
-    count_found(
-        settings.mode,
-        settings.nsb,
-        settings.nsa,
-        settings.limit,
-        threshold,
-        row,
     )
 }

@@ -25,7 +25,7 @@ use Rattle.items.specs.declared.Item.{Item}
 use Rattle.items.specs.declared.Item.the-variants as I
 use Rattle.pulse.specs.declared.Parts.{Parts}
 use Rattle.pairs.specs.Pairs.{pairItems}
-use Rattle.channel.specs.Channel.{windowItems, partsOf, pulsesItems, Common, commonOf, pulsesOf, channelItems, channelWords}
+use Rattle.modes.specs.Channel.{windowItems, partsOf, pulsesItems, Common, commonOf, pulsesOf, channelItems, channelWords}
 use Rattle.pulse.specs.Pulse.{setOf, rawItems, integralItem, timeItem, pedestalItem, pulseItems}
 use Rattle.event.specs.Event.{timeItems}
 use Rattle.state.specs.declared.State.{State}

@@ -11,7 +11,7 @@ use Rattle.find.specs.Call.{findNumber, foundPulses}
 use Rattle.reader.specs.Reader.{Whole, Reading, readFrom}
 use Rattle.scan.specs.After.{startOf}
 use Rattle.reader.specs.RunLaws.{check-reads}
-use Rattle.channel.specs.Channel.{commonOf, channelItems}
+use Rattle.modes.specs.Channel.{commonOf, channelItems}
 use Rattle.state.specs.declared.State.{State}
 use Rattle.writer.specs.declared.Answer.{Answer}
 use Rattle.writer.specs.declared.Finished.{Finished}

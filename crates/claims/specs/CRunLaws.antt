@@ -8,7 +8,7 @@ use lib.ListN.{length, getD, take, drop}
 use Rattle.ground.specs.Order.{Perm}
 use Rattle.refusals.specs.Refusal.{numberOf}
 use Rattle.items.specs.declared.Item.{Item}
-use Rattle.channel.specs.Channel.{commonOf, channelWords}
+use Rattle.modes.specs.Channel.{commonOf, channelWords}
 use Rattle.scan.specs.After.{startOf}
 use Rattle.state.specs.declared.State.{State}
 use Rattle.writer.specs.declared.Finished.{Finished}

@@ -15,7 +15,7 @@ use Rattle.ground.specs.TestsLaws.{and-left, and-right}
 use Rattle.settings.specs.declared.Settings.{Settings}
 use Rattle.items.specs.declared.Item.{Item}
 use Rattle.items.specs.declared.Item.the-variants as I
-use Rattle.channel.specs.Channel.{commonOf, channelItems}
+use Rattle.modes.specs.Channel.{commonOf, channelItems}
 use Rattle.rows.specs.Rows.{row}
 use Rattle.event.specs.Event.{timeItems, channelsItems, eventItems}
 use Rattle.rows.specs.RowsLaws.{row-end}

@@ -14,7 +14,7 @@ use Rattle.items.specs.declared.Item.{Item}
 use Rattle.items.specs.declared.Item.the-variants as I
 use Rattle.reader.specs.Reader.{Whole, readFrom}
 use Rattle.scan.specs.After.{startOf}
-use Rattle.channel.specs.Channel.{commonOf, channelItems}
+use Rattle.modes.specs.Channel.{commonOf, channelItems}
 use Rattle.event.specs.Event.{timeItems}
 use Rattle.writer.specs.declared.Answer.{Answer}
 use Rattle.writer.specs.declared.Finished.{Finished}
@@ -229,5 +229,5 @@ pub record Holds (r : BenchRun) : Type 0 where
 
 -- a proof that computes opens this file and what it leans on by one name
 unfoldable pub allOpen : Unit {0}
-unfolding settingsOf rows asBench Rattle.timing.specs.Time.allOpen Rattle.find.specs.Call.allOpen Rattle.reader.specs.Reader.allOpen Rattle.scan.specs.After.allOpen Rattle.channel.specs.Channel.allOpen Rattle.event.specs.Event.allOpen Rattle.writer.specs.Calls.allOpen Rattle.block.specs.Block.allOpen Rattle.bytecheck.specs.Check.allOpen Rattle.listing.specs.Listing.allOpen Rattle.claims.specs.Bytes.allOpen Rattle.claims.specs.Reads.allOpen
+unfolding settingsOf rows asBench Rattle.timing.specs.Time.allOpen Rattle.find.specs.Call.allOpen Rattle.reader.specs.Reader.allOpen Rattle.scan.specs.After.allOpen Rattle.modes.specs.Channel.allOpen Rattle.event.specs.Event.allOpen Rattle.writer.specs.Calls.allOpen Rattle.block.specs.Block.allOpen Rattle.bytecheck.specs.Check.allOpen Rattle.listing.specs.Listing.allOpen Rattle.claims.specs.Bytes.allOpen Rattle.claims.specs.Reads.allOpen
 allOpen = tt

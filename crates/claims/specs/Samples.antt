@@ -17,7 +17,7 @@ use Rattle.rawitems.specs.Pairs.{partOf}
 use Rattle.rawsamples.specs.RawSamples.{samplesOf}
 use Rattle.scan.specs.declared.Scan.{Scan}
 use Rattle.pulse.specs.Pulse.{setOf}
-use Rattle.channel.specs.Channel.{commonOf, pulsesOf}
+use Rattle.modes.specs.Channel.{commonOf, pulsesOf}
 use Rattle.rows.specs.Rows.{row}
 use Rattle.state.specs.declared.State.{State}
 use Rattle.claims.specs.Reads.{Reads, at-end, took}

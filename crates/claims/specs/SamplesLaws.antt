@@ -28,7 +28,7 @@ use Rattle.rawsamples.specs.RawSamples.{ifValid, samplesOf}
 use Rattle.records.specs.Next.{fillerAt, AllAre, isPair, startsPair, PairsMade, Made, OfRaw}
 use Rattle.pulse.specs.declared.Parts.{Parts}
 use Rattle.pairs.specs.Pairs.{pairItems}
-use Rattle.channel.specs.Channel.{windowItems, modeTable, rowOfMode, partsOf, pulsesItems, commonOf, pulsesOf, channelItems}
+use Rattle.modes.specs.Channel.{windowItems, modeTable, rowOfMode, partsOf, pulsesItems, commonOf, pulsesOf, channelItems}
 use Rattle.pulse.specs.Pulse.{setOf, rawItems, integralItem, timeItem, pedestalItem, pulseItems}
 use Rattle.rows.specs.Rows.{row, rowsOk}
 use Rattle.event.specs.Event.{timeItems, channelsItems, eventItems}

@@ -38,6 +38,7 @@ use Rattle.find.proofs as find
 use Rattle.find.specs.CallLaws as F
 use Rattle.pairs.proofs as pairs
 use Rattle.pulse.proofs as pulse
+use Rattle.modes.proofs as modes
 use Rattle.channel.proofs as channel
 use Rattle.rows.proofs as rows
 use Rattle.event.proofs as event
@@ -447,15 +448,22 @@ pulse-length-unique κs a r s u v p q = by-equation p q
 pub put-pulse-unique : Unique pulse.put_pulse.ended pulse.put_pulse.Reads.Learnt
 put-pulse-unique κs a r s u v p q = by-writing (u .1) p q
 
+-- modes
+pub parts-of-unique : Unique modes.parts_of.ended modes.parts_of.Reads.Learnt
+parts-of-unique κs a r s u v p q = by-equation p q
+
+pub limit-for-unique : Unique modes.limit_for.ended modes.limit_for.Reads.Learnt
+limit-for-unique κs a r s u v p q = by-equation p q
+
+pub most-words-unique : Unique modes.most_words.ended modes.most_words.Reads.Learnt
+most-words-unique κs a r s u v p q = by-equation p q
+
+pub channel-length-unique : Unique modes.channel_length.ended modes.channel_length.Reads.Learnt
+channel-length-unique κs a r s u v p q = by-equation p q
+
 -- channel
 pub put-channel-unique : Unique channel.put_channel.ended channel.put_channel.Reads.Learnt
 put-channel-unique κs a r s u v p q = by-writing (u .1) p q
-
-pub channel-length-unique : Unique channel.channel_length.ended channel.channel_length.Reads.Learnt
-channel-length-unique κs a r s u v p q = by-equation p q
-
-pub most-words-unique : Unique channel.most_words.ended channel.most_words.Reads.Learnt
-most-words-unique κs a r s u v p q = by-equation p q
 
 -- rows
 pub lent-unique : Unique rows.lent.ended rows.lent.Reads.Learnt

@@ -26,7 +26,7 @@ use Rattle.items.specs.declared.Item.{Item}
 use Rattle.items.specs.declared.Item.the-variants as I
 use Rattle.pulse.specs.declared.Parts.{Parts}
 use Rattle.pairs.specs.Pairs.{pairItems}
-use Rattle.channel.specs.Channel.{windowItems, partsOf, pulsesItems, commonOf, pulsesOf, channelItems}
+use Rattle.modes.specs.Channel.{windowItems, partsOf, pulsesItems, commonOf, pulsesOf, channelItems}
 use Rattle.pulse.specs.Pulse.{setOf, rawItems, integralItem, timeItem, pedestalItem, pulseItems}
 use Rattle.pulse.specs.PulseLaws.{length-set}
 use Rattle.rows.specs.Rows.{row, rowsOk}

@@ -9,7 +9,7 @@ use Rattle.rows.specs.Rows.{row}
 use Rattle.items.specs.declared.Item.{Item}
 use Rattle.items.specs.declared.Item.the-variants as I
 use Rattle.items.specs.Items.{itemIf}
-use Rattle.channel.specs.Channel.{commonOf, channelItems}
+use Rattle.modes.specs.Channel.{commonOf, channelItems}
 
 -- "Trigger-time words 0, 1 or 2.": "time bits 26-24, .. time bits 23-0", and "time bits 47-24"
 unfoldable pub timeItems : ℕ → ℕ → List Item
@@ -30,5 +30,5 @@ eventItems s number time posted store =
 
 -- a proof that computes opens this file and what it leans on by one name
 unfoldable pub allOpen : Unit {0}
-unfolding timeItems channelsItems eventItems Rattle.rows.specs.Rows.allOpen Rattle.items.specs.Items.allOpen Rattle.channel.specs.Channel.allOpen
+unfolding timeItems channelsItems eventItems Rattle.rows.specs.Rows.allOpen Rattle.items.specs.Items.allOpen Rattle.modes.specs.Channel.allOpen
 allOpen = tt

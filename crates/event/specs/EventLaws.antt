@@ -19,9 +19,9 @@ use Rattle.items.specs.Items.{wordsOf, itemIf}
 use Rattle.items.specs.declared.Item.{Item}
 use Rattle.items.specs.declared.Item.the-variants as I
 use Rattle.items.specs.ItemsLaws.{loop-room, loop-less, loop-none}
-use Rattle.channel.specs.Channel.{commonOf, channelItems, modeMost}
-use Rattle.channel.specs.InnerLaws.{length-channel, any-channel}
-use Rattle.channel.specs.BoundLaws.{channel-within, mode-le, mode-most}
+use Rattle.modes.specs.Channel.{commonOf, channelItems, modeMost}
+use Rattle.modes.specs.InnerLaws.{length-channel, any-channel}
+use Rattle.modes.specs.BoundLaws.{channel-within, mode-le, mode-most}
 use Rattle.rows.specs.Rows.{row}
 use Rattle.rows.specs.RowsLaws.{marks-step}
 use Rattle.event.specs.Event.{timeItems, channelsItems, eventItems}

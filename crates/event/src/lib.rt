@@ -17,7 +17,7 @@ ghost use Rattle.settings.specs.Ranges.{settingsOk};
 ghost use Rattle.rows.specs.Rows.{lentOk};
 ghost use Rattle.rows.specs.Inner.{Lent};
 ghost use Rattle.items.specs.Items.{wordsOf};
-ghost use Rattle.channel.specs.Channel.{commonOf, channelItems};
+ghost use Rattle.modes.specs.Channel.{commonOf, channelItems};
 ghost use Rattle.event.specs.Event.{timeItems, channelsItems, eventItems};
 ghost use Rattle.event.specs.Inner.{eventLength};
 
@@ -123,7 +123,7 @@ fn posted_length(settings: Settings, posted: bool, threshold: u32, row: &[u16]) 
     ensures { λ r. ⌜ r ≡ cond posted (length (channelItems (commonOf settings) threshold 0 (now (row .entry)))) 0 ⌝ }
 {
     if posted {
-        channel::channel_length(settings, threshold, row)
+        modes::channel_length(settings, threshold, row)
     } else {
         0
     }
@@ -164,7 +164,7 @@ fn event_short(room: usize, at: usize, settings: Settings, posted: &[bool], stor
     requires { ⌜ Lent settings (now posted) (now store) ⌝ }
     ensures { λ r. ⌜ r ≡ ltb room (at + eventLength settings (now (posted .entry)) (now (store .entry))) ⌝ }
 {
-    let channel = channel::most_words(settings.mode, settings.nw);
+    let channel = modes::most_words(settings.mode, settings.nw);
     if !items::put::room_short(room, at, 3 + CHANNELS * channel) {
         return false;
     }

@@ -12,9 +12,9 @@ use Rattle.finder.specs.Find.{searchable}
 use Rattle.finder.specs.FindLaws.{searched}
 use Rattle.items.specs.declared.Item.{Item}
 use Rattle.items.specs.ItemsLaws.{put-wrote, put-nothing}
-use Rattle.channel.specs.Channel.{commonOf, channelItems}
-use Rattle.channel.specs.Inner.{channelLength}
-use Rattle.channel.specs.InnerLaws.{channel-quiet, length-channel}
+use Rattle.modes.specs.Channel.{commonOf, channelItems}
+use Rattle.modes.specs.Inner.{channelLength}
+use Rattle.modes.specs.InnerLaws.{channel-quiet, length-channel}
 use Rattle.channel.proofs.put_channel.Statement.{statement}
 use Rattle.channel.proofs.put_channel.Tie as tie
 
@@ -44,7 +44,7 @@ module _ (c : tie.Else2) where
   size = length-channel (commonOf (start .args .settings)) (start .args .threshold) (start .args .channel) (start .args .row .now) (searched _ _ _ asked .some)
 
 channel-short-requires : tie.Need-channel-short-requires
-channel-short-requires c κs = (asked c, rw (c .before .tc-from .ensures) at (some c))
+channel-short-requires c κs = asked c
 
 returns-3 : tie.Need-returns-3
 returns-3 c =

@@ -10,8 +10,8 @@ use Rattle.finder.specs.Find.{pulsesFrom}
 use Rattle.finder.specs.FindLaws.{searched, can-search}
 use Rattle.items.specs.declared.Item.{Item}
 use Rattle.items.specs.ItemsLaws.{first-room, then-room, then-written}
-use Rattle.channel.specs.Channel.{Common, windowItems, pulsesItems, channelItems}
-use Rattle.channel.specs.InnerLaws.{search-less, channel-busy}
+use Rattle.modes.specs.Channel.{Common, windowItems, pulsesItems, channelItems}
+use Rattle.modes.specs.InnerLaws.{search-less, channel-busy}
 use Rattle.channel.proofs.put_found.Statement.{statement}
 use Rattle.channel.proofs.put_found.Tie as tie
 

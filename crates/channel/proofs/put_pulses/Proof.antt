@@ -7,7 +7,7 @@ use Rattle.search.specs.SearchLaws.{tc-over}
 use Rattle.finder.specs.Find.{pulsesFrom}
 use Rattle.finder.specs.FindLaws.{searched}
 use Rattle.items.specs.Items.{wordsOf}
-use Rattle.channel.specs.Channel.{pulsesItems}
+use Rattle.modes.specs.Channel.{pulsesItems}
 use Rattle.channel.specs.PulsesLaws.{pulse-first, pulse-full, pulse-none, pulse-less}
 use Rattle.channel.proofs.put_pulses.Statement.{statement}
 use Rattle.channel.proofs.put_pulses.Tie as tie

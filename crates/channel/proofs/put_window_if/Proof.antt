@@ -8,7 +8,7 @@ use Rattle.limits.specs.LimitsLaws.{most-samples}
 use Rattle.pairs.specs.Pairs.{pairItems}
 use Rattle.items.specs.declared.Item.the-variants as I
 use Rattle.items.specs.ItemsLaws.{put-written}
-use Rattle.channel.specs.Channel.{windowItems}
+use Rattle.modes.specs.Channel.{windowItems}
 use Rattle.channel.proofs.put_window_if.Statement.{statement}
 use Rattle.channel.proofs.put_window_if.Tie as tie
 

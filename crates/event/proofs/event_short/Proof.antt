@@ -6,8 +6,8 @@ use borrow.Author.Needs.{needs}
 use borrow.Author.Tests.{ltb-false, le-ltb, le-leb, not-true}
 use Rattle.limits.specs.LimitsLaws.{most-channel}
 use Rattle.settings.specs.RangesLaws.{settings-in-range}
-use Rattle.channel.specs.Channel.{modeMost}
-use Rattle.channel.specs.BoundLaws.{mode-most}
+use Rattle.modes.specs.Channel.{modeMost}
+use Rattle.modes.specs.BoundLaws.{mode-most}
 use Rattle.event.specs.Inner.{eventLength}
 use Rattle.event.specs.EventLaws.{event-within}
 use Rattle.event.proofs.event_short.Statement.{statement}

@@ -5,7 +5,7 @@ use Rattle.ground.specs.WritingLaws.{written-nil}
 use Rattle.settings.specs.RangesLaws.{settings-in-range}
 use Rattle.finder.specs.FindLaws.{range-searches}
 use Rattle.items.specs.ItemsLaws.{put-written}
-use Rattle.channel.specs.Channel.{commonOf, channelItems}
+use Rattle.modes.specs.Channel.{commonOf, channelItems}
 use Rattle.event.proofs.put_posted.Statement.{statement}
 use Rattle.event.proofs.put_posted.Tie as tie
 

@@ -1,4 +1,4 @@
--- `channel::most_words` meets its contract.
+-- `modes::most_words` meets its contract.
 use Prim.Native.Nat.{_+_, _*_, _≤_}
 use mathlib.Core.Path.{_≡_}
 use native.Mathlib.Omega.{arith}
@@ -6,10 +6,10 @@ use borrow.Author.Needs.{needs}
 use borrow.Author.Tests.{le-leb, lt-leb}
 use Rattle.limits.specs.Limits.{mostSamples}
 use Rattle.limits.specs.LimitsLaws.{most-samples, most-channel}
-use Rattle.channel.specs.Channel.{modeMost}
-use Rattle.channel.specs.BoundLaws.{mode-most}
-use Rattle.channel.proofs.most_words.Statement.{statement}
-use Rattle.channel.proofs.most_words.Tie as tie
+use Rattle.modes.specs.Channel.{modeMost}
+use Rattle.modes.specs.BoundLaws.{mode-most}
+use Rattle.modes.proofs.most_words.Statement.{statement}
+use Rattle.modes.proofs.most_words.Tie as tie
 
 -- what the code adds up
 module _ (c : tie.After-set-length) where

@@ -4,7 +4,7 @@ use pulse::Parts;
 ghost use mathlib.Core.Path.{_≡_};
 ghost use Prim.Native.Nat.{_*_, _≤_};
 ghost use Rattle.limits.specs.Limits.{mostSamples, mostPulse};
-ghost use Rattle.channel.specs.Inner.{listed, InWindow, pulsesLength};
+ghost use Rattle.modes.specs.Inner.{listed, InWindow, pulsesLength};
 
 pub(crate) fn pulses_length(parts: Parts, found: Pulses, samples: usize) -> usize
     requires { ⌜ InWindow samples found × (samples ≤ mostSamples) ⌝ }

@@ -1,15 +1,15 @@
--- `channel::count::pulses_length` meets its contract: what is counted and what is left are the whole.
+-- `modes::count::pulses_length` meets its contract: what is counted and what is left are the whole.
 use Prim.Native.Nat.{_+_, _-_, _≤_}
 use mathlib.Core.Path.{_≡_}
 use native.Mathlib.Omega.{arith}
 use native.Mathlib.Nat.{zero-add}
 use lib.ListN.{drop}
 use Rattle.limits.specs.LimitsLaws.{most-pulse}
-use Rattle.channel.specs.Inner.{listed, pulsesLength}
-use Rattle.channel.specs.InnerLaws.{place-in, count-turn, count-end}
-use Rattle.channel.specs.BoundLaws.{found-most}
-use Rattle.channel.proofs.count.pulses_length.Statement.{statement}
-use Rattle.channel.proofs.count.pulses_length.Tie as tie
+use Rattle.modes.specs.Inner.{listed, pulsesLength}
+use Rattle.modes.specs.InnerLaws.{place-in, count-turn, count-end}
+use Rattle.modes.specs.BoundLaws.{found-most}
+use Rattle.modes.proofs.count.pulses_length.Statement.{statement}
+use Rattle.modes.proofs.count.pulses_length.Tie as tie
 
 abbrev Inv-loop : tie.InvT-loop
 Inv-loop parts samples found n₀ i₀ n i = (i ≤ found .count) × (n + pulsesLength parts (drop i (listed found)) ≡ pulsesLength parts (listed found))

@@ -1,14 +1,14 @@
--- `channel::count_found` meets its contract: the count of what the finder gives.
+-- `modes::count_found` meets its contract: the count of what the finder gives.
 use native.Mathlib.Omega.{arith}
 use borrow.Author.Needs.{needs}
 use lib.ListN.{length}
 use Rattle.limits.specs.LimitsLaws.{most-raw, most-pulse}
 use Rattle.pairs.specs.PairsLaws.{run-most}
 use Rattle.finder.specs.FindLaws.{searched}
-use Rattle.channel.specs.Channel.{Common}
-use Rattle.channel.specs.InnerLaws.{IsFound, is-found, channel-counted}
-use Rattle.channel.proofs.count_found.Statement.{statement}
-use Rattle.channel.proofs.count_found.Tie as tie
+use Rattle.modes.specs.Channel.{Common}
+use Rattle.modes.specs.InnerLaws.{IsFound, is-found, channel-counted}
+use Rattle.modes.proofs.count_found.Statement.{statement}
+use Rattle.modes.proofs.count_found.Tie as tie
 
 -- what is known once the finder has answered
 module _ (c : tie.After-pulses-of) where

@@ -1,6 +1,6 @@
 -- What one channel writes: document 01, "The words", as lists of records. Assumes nothing.
 use Prim.Native.Nat.{ℕ, _+_, _*_}
-use mathlib.Core.Bool.{Bool, true, false, cond, _&&_}
+use mathlib.Core.Bool.{Bool, true, false, cond, _&&_, _||_}
 use mathlib.Core.List.{List, [], _∷_, _++_}
 use lib.ListN.{length}
 use lib.Dec.{eqb}
@@ -48,6 +48,14 @@ rowOfMode (r ∷ rs) mode = cond (eqb mode (r .0)) (r .1) (rowOfMode rs mode)
 unfoldable pub partsOf : ℕ → Parts
 partsOf mode = rowOfMode modeTable mode
 
+-- the mode writes something of a pulse
+unfoldable pub ofPulses : Parts → Bool
+ofPulses m = ((m .raw || m .integral) || m .time) || m .pedestal
+
+-- as many pulses as the mode writes of
+abbrev pub limitFor : Parts → ℕ → ℕ
+limitFor m limit = cond (ofPulses m) limit 0
+
 -- "Pulses in order", numbered from i
 unfoldable pub pulsesItems : Parts → ℕ → List ℕ → ℕ → List Pulse → List Item
 pulsesItems m c w i [] = []
@@ -88,5 +96,5 @@ modeMost mode n = partsMost (partsOf mode) n
 
 -- a proof that computes opens this file and what it leans on by one name
 unfoldable pub allOpen : Unit {0}
-unfolding windowItems partsOf pulsesItems channelItems modeMost Rattle.search.specs.Search.allOpen Rattle.finder.specs.Find.allOpen Rattle.items.specs.Items.allOpen Rattle.pulse.specs.Pulse.allOpen
+unfolding windowItems partsOf ofPulses pulsesItems channelItems modeMost Rattle.search.specs.Search.allOpen Rattle.finder.specs.Find.allOpen Rattle.items.specs.Items.allOpen Rattle.pulse.specs.Pulse.allOpen
 allOpen = tt

@@ -23,8 +23,8 @@ use Rattle.pulse.specs.Pulse.{pulseItems, setLength, pulseLength, fitsIn}
 use Rattle.pulse.specs.PulseLaws.{length-if, length-pulse, fits-in}
 use Rattle.pairs.specs.PairsLaws.{length-pairs}
 use Rattle.items.specs.declared.Item.{Item}
-use Rattle.channel.specs.Channel.{windowItems, partsOf, pulsesItems, Common, pulsesOf, channelItems}
-use Rattle.channel.specs.Inner.{listed, InWindow, ofPulses, limitFor, pulsesLength, channelLength}
+use Rattle.modes.specs.Channel.{windowItems, partsOf, ofPulses, limitFor, pulsesItems, Common, pulsesOf, channelItems}
+use Rattle.modes.specs.Inner.{listed, InWindow, pulsesLength, channelLength}
 
 -- ---- the three places
 

@@ -18,9 +18,9 @@ use Rattle.finder.specs.FindLaws.{Searched, searched}
 use Rattle.finder.specs.RangeLaws.{PulseFits, EachFits, pulses-fit, pulses-count}
 use Rattle.pulse.specs.declared.Parts.{Parts}
 use Rattle.pulse.specs.Pulse.{setLength, pulseLength}
-use Rattle.channel.specs.Channel.{modeTable, rowOfMode, partsOf, Common, commonOf, pulsesOf, partsMost, modeMost}
-use Rattle.channel.specs.Inner.{listed, InWindow, pulsesLength, channelLength}
-use Rattle.channel.specs.InnerLaws.{length-listed}
+use Rattle.modes.specs.Channel.{modeTable, rowOfMode, partsOf, Common, commonOf, pulsesOf, partsMost, modeMost}
+use Rattle.modes.specs.Inner.{listed, InWindow, pulsesLength, channelLength}
+use Rattle.modes.specs.InnerLaws.{length-listed}
 
 cond-le : (b : Bool) (x y : ℕ) → x ≤ y → cond b x 0 ≤ cond b y 0
 cond-le true x y h = h

@@ -1,9 +1,9 @@
--- `channel::parts_of` meets its contract, row by row.
+-- `modes::parts_of` meets its contract, row by row.
 use borrow.Author.Tests.{ne-eqb}
-use Rattle.channel.specs.Channel.{partsOf}
+use Rattle.modes.specs.Channel.{partsOf}
 use borrow.Author.Needs.{needs}
-use Rattle.channel.proofs.parts_of.Statement.{statement}
-use Rattle.channel.proofs.parts_of.Tie as tie
+use Rattle.modes.proofs.parts_of.Statement.{statement}
+use Rattle.modes.proofs.parts_of.Tie as tie
 
 returns : tie.Need-returns
 unfolding partsOf

@@ -1,4 +1,4 @@
--- `channel::channel_length` meets its contract.
+-- `modes::channel_length` meets its contract.
 use mathlib.Core.Path.{_≡_, sym, ap, _∙_}
 use mathlib.Core.Bool.{true}
 use native.Mathlib.Omega.{arith}
@@ -8,10 +8,10 @@ use lib.ListN.{length}
 use Rattle.search.specs.Search.{tcFrom}
 use Rattle.finder.specs.Find.{searchable}
 use Rattle.finder.specs.FindLaws.{searched}
-use Rattle.channel.specs.Channel.{commonOf}
-use Rattle.channel.specs.InnerLaws.{any-first, channel-quiet, length-channel}
-use Rattle.channel.proofs.channel_length.Statement.{statement}
-use Rattle.channel.proofs.channel_length.Tie as tie
+use Rattle.modes.specs.Channel.{commonOf}
+use Rattle.modes.specs.InnerLaws.{any-first, channel-quiet, length-channel}
+use Rattle.modes.proofs.channel_length.Statement.{statement}
+use Rattle.modes.proofs.channel_length.Tie as tie
 
 returns : tie.Need-returns
 returns c = rw (sym (c .before .can-search .ensures) ∙ not-true _ (c .if1 .taken))

@@ -1,7 +1,7 @@
--- `channel::limit_for` meets its contract.
-use Rattle.channel.specs.Inner.{ofPulses}
-use Rattle.channel.proofs.limit_for.Statement.{statement}
-use Rattle.channel.proofs.limit_for.Tie as tie
+-- `modes::limit_for` meets its contract.
+use Rattle.modes.specs.Channel.{ofPulses}
+use Rattle.modes.proofs.limit_for.Statement.{statement}
+use Rattle.modes.proofs.limit_for.Tie as tie
 
 returns : tie.Need-returns
 unfolding ofPulses

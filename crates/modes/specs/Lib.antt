@@ -1,0 +1,4 @@
+pub mod Channel
+pub mod Inner
+pub mod InnerLaws
+pub mod BoundLaws
