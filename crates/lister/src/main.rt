@@ -36,15 +36,17 @@ fn read_all(fd: i32, input: &mut [u8]) -> Input
     Input::Bytes(done)
 }
 
+fn write_text(text: &[u8]) {
+    if !io::write_all(STDOUT_FILENO, text) {
+        os::fail(b"lister: the text could not be written");
+    }
+}
+
 // Writes the text of the bytes. The buffer has room for the longest.
 fn print(bytes: &[u8]) {
     let mut text = [0u8; 376854];
     match listing::list(bytes, &mut text) {
-        Listed::Text(length) => {
-            if !io::write_all(STDOUT_FILENO, &text[..length]) {
-                os::fail(b"lister: the text could not be written");
-            }
-        }
+        Listed::Text(length) => write_text(&text[..length]),
         Listed::NoRoom(_) => never(),
     }
 }

@@ -9,8 +9,8 @@ use Rattle.lister.proofs.print.Tie as tie
 array-share-prefix-text : tie.Need-array-share-prefix-text
 array-share-prefix-text c = within (c .before .length .given .1) (c .before .before .before .before .list .ensures)
 
-slice-aggregate-write-all : tie.Need-slice-aggregate-write-all
-slice-aggregate-write-all c = within-take (c .before .before .length .given .1) (c .before .before .before .before .before .list .ensures)
+slice-aggregate-write-text : tie.Need-slice-aggregate-write-text
+slice-aggregate-write-text c = within-take (c .before .before .length .given .1) (c .before .before .before .before .before .list .ensures)
 
 never-requires : tie.Need-never-requires
 never-requires c κs = always-room _ (omega arith) (c .enum-told .given .1) (c .before .before .before .list .ensures)
@@ -23,12 +23,9 @@ print-spec =
     (λ c κs. search needs)
     (λ c. search needs)
     array-share-prefix-text
-    slice-aggregate-write-all
-    (λ c κs. search needs)
-    (λ c. search needs)
+    slice-aggregate-write-text
     (λ c κs. search needs)
     (λ c. search needs)
     never-requires
-    (λ c. search needs)
     (λ c. search needs)
     (λ c. search needs))
