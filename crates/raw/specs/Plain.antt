@@ -1,4 +1,4 @@
--- The words that a block with windows is full of. No public contract cites it. Assumes nothing.
+-- The words that a block with windows is full of. No call from C rests on it. Assumes nothing.
 use Prim.Native.Nat.{ℕ}
 use mathlib.Core.Bool.{Bool, _&&_}
 use lib.Dec.{eqb}
