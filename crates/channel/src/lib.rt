@@ -132,14 +132,24 @@ fn put_found(
 }
 
 // Fewer words are left than the channel takes. Where there is room for the longest in the mode, nothing is counted.
-fn channel_short(room: usize, at: usize, settings: Settings, threshold: u32, row: &[u16]) -> bool
-    requires { ⌜ searchable (length (now row)) (settings .nsa) (settings .limit) ≡ true ⌝ }
-    ensures { λ r. ⌜ r ≡ ltb room (at + channelLength (commonOf settings) threshold (now (row .entry))) ⌝ }
+fn channel_short(
+    room: usize,
+    at: usize,
+    mode: u32,
+    nsb: usize,
+    nsa: usize,
+    limit: usize,
+    threshold: u32,
+    row: &[u16],
+) -> bool
+    requires { ⌜ searchable (length (now row)) nsa limit ≡ true ⌝ }
+    ensures { λ r. ⌜ r ≡ ltb room (at + channelLength (record { mode = mode; nsb = nsb; nsa = nsa; limit = limit }) threshold (now (row .entry))) ⌝ }
 {
-    if !room_short(room, at, modes::most_words(settings.mode, row.len())) {
+    if !room_short(room, at, modes::most_words(mode, row.len())) {
         return false;
     }
-    room_short(room, at, modes::channel_length(settings, threshold, row))
+    let count = modes::common_length(mode, nsb, nsa, limit, threshold, row);
+    room_short(room, at, count)
 }
 
 // The words of a channel: of the common settings, its own threshold, its number and its window. Without a sample over there are none.
@@ -164,7 +174,7 @@ pub fn put_channel(
     if first == 0 {
         return at;
     }
-    if channel_short(words.len(), at, settings, threshold, row) {
+    if channel_short(words.len(), at, mode, nsb, nsa, limit, threshold, row) {
         return at;
     }
     put_found(

@@ -458,6 +458,9 @@ limit-for-unique κs a r s u v p q = by-equation p q
 pub most-words-unique : Unique modes.most_words.ended modes.most_words.Reads.Learnt
 most-words-unique κs a r s u v p q = by-equation p q
 
+pub common-length-unique : Unique modes.common_length.ended modes.common_length.Reads.Learnt
+common-length-unique κs a r s u v p q = by-equation p q
+
 pub channel-length-unique : Unique modes.channel_length.ended modes.channel_length.Reads.Learnt
 channel-length-unique κs a r s u v p q = by-equation p q
 

@@ -84,17 +84,30 @@ pub fn most_words(mode: u32, samples: usize) -> usize
     0
 }
 
-// How many words a channel takes, whatever its number.
-pub fn channel_length(settings: Settings, threshold: u32, row: &[u16]) -> usize
-    ensures { λ r. ⌜ r ≡ cond (searchable (length (now (row .entry))) (settings .nsa) (settings .limit)) (length (channelItems (commonOf settings) threshold 0 (now (row .entry)))) 0 ⌝ }
+// How many words a channel takes, whatever its number: of the settings that all channels share.
+pub fn common_length(
+    mode: u32,
+    nsb: usize,
+    nsa: usize,
+    limit: usize,
+    threshold: u32,
+    row: &[u16],
+) -> usize
+    ensures { λ r. ⌜ r ≡ cond (searchable (length (now (row .entry))) nsa limit) (length (channelItems (record { mode = mode; nsb = nsb; nsa = nsa; limit = limit }) threshold 0 (now (row .entry)))) 0 ⌝ }
 {
-    if !finder::can_search(row.len(), settings.nsa, settings.limit) {
+    if !finder::can_search(row.len(), nsa, limit) {
         return 0;
     }
     if !search::any_over(row, threshold) {
         return 0;
     }
-    count_found(
+    count_found(mode, nsb, nsa, limit, threshold, row)
+}
+
+pub fn channel_length(settings: Settings, threshold: u32, row: &[u16]) -> usize
+    ensures { λ r. ⌜ r ≡ cond (searchable (length (now (row .entry))) (settings .nsa) (settings .limit)) (length (channelItems (commonOf settings) threshold 0 (now (row .entry)))) 0 ⌝ }
+{
+    common_length(
         settings.mode,
         settings.nsb,
         settings.nsa,
