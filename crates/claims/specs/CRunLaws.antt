@@ -22,11 +22,11 @@ use Rattle.numbers.specs.Numbers.{table, marksFrom, stateFrom, numbersOf}
 use Rattle.numbers.specs.On.{onState}
 use Rattle.host.specs.Face.{FinishFace}
 use Rattle.numbers.specs.BackLaws.{Loads, numbers-back}
-use Rattle.claims.specs.Order.{Bench, Post, PostRun, Apart}
-use Rattle.claims.specs.Order as P
-use Rattle.claims.specs.OrderLaws.{order}
-use Rattle.claims.specs.Own.{EventRun, postedWindow, ofChannel, wordsFor}
-use Rattle.claims.specs.AloneLaws.{own-words, no-window, own-alone}
+use Rattle.owners.specs.Order.{Bench, Post, PostRun, Apart}
+use Rattle.owners.specs.Order as P
+use Rattle.owners.specs.OrderLaws.{order}
+use Rattle.owners.specs.Own.{EventRun, postedWindow, ofChannel, wordsFor}
+use Rattle.owners.specs.AloneLaws.{own-words, no-window, own-alone}
 use Rattle.layout.specs.NothingLost.{AllWords}
 use Rattle.claims.specs.Run.{Run}
 use Rattle.claims.specs.Run as R

@@ -21,8 +21,8 @@ use Rattle.hostfind.specs.Found.{foundNumbers}
 use Rattle.host.specs.Face.{inHigh, OpenBlockFace, OpenEventFace, PostFace, CloseFace, FinishFace}
 use Rattle.numbers.specs.BackLaws.{Loads}
 use Rattle.claims.specs.Run.{Run}
-use Rattle.claims.specs.Order.{Post, Apart}
-use Rattle.claims.specs.Own.{ofChannel}
+use Rattle.owners.specs.Order.{Post, Apart}
+use Rattle.owners.specs.Own.{ofChannel}
 
 -- ---- one call
 

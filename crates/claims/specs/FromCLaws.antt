@@ -35,7 +35,7 @@ use Rattle.hostfind.specs.FoundLaws.{found-or-zeros}
 use Rattle.numbers.specs.BackLaws.{Loads, numbers-back}
 use Rattle.host.specs.LoadsLaws.{set-up-loads, open-block-loads, open-event-loads, post-loads, close-loads, finish-loads, finish-below}
 use Rattle.claims.specs.Tables.{Exactly, exactly}
-use Rattle.claims.specs.OrderLaws.{zero-or}
+use Rattle.owners.specs.OrderLaws.{zero-or}
 use Rattle.claims.specs.FromC.{Call, SetUpCall, FinishCall, FindCall, TakenByNone}
 
 -- ---- "exactly when the table says"

@@ -2,11 +2,6 @@ pub mod Refused
 pub mod Tables
 pub mod WrongCalls
 pub mod WrongCallsLaws
-pub mod Order
-pub mod OrderLaws
-pub mod Own
-pub mod OwnLaws
-pub mod AloneLaws
 pub mod Run
 pub mod WrittenLaws
 pub mod RunLaws
@@ -26,7 +21,5 @@ pub mod CRunLaws
 pub mod ReadFromC
 pub mod ReadFromCLaws
 pub mod RoundFromCLaws
-pub mod Unique
-pub mod Ties
 pub mod FieldEnds
 pub mod FieldEndsLaws

@@ -44,10 +44,10 @@ use Rattle.claims.specs.WrittenLaws.{under-set, pairs}
 use Rattle.claims.specs.Reads.{PartRead, Reads, at-end, took}
 use Rattle.claims.specs.ReadsLaws.{run-next}
 use Rattle.claims.specs.Run.{Run, opened, begun, posted, closed, not-closed, not-opened, not-finished}
-use Rattle.claims.specs.Order.{Bench, Post}
-use Rattle.claims.specs.OrderLaws.{answerOf, has, run-posts}
-use Rattle.claims.specs.Own.{EventRun, settingsIn, postedWindow}
-use Rattle.claims.specs.OwnLaws.{windowFor, itemsFor, ownItems, own-records}
+use Rattle.owners.specs.Order.{Bench, Post}
+use Rattle.owners.specs.OrderLaws.{answerOf, has, run-posts}
+use Rattle.owners.specs.Own.{EventRun, settingsIn, postedWindow}
+use Rattle.owners.specs.OwnLaws.{windowFor, itemsFor, ownItems, own-records}
 use Rattle.claims.specs.Samples.{recordSamples, samplesRead, setsSent, channelSent, rowsSent, windowSent, windowsSent, samplesSent}
 
 -- ---- pairs of samples

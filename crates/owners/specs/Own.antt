@@ -15,7 +15,7 @@ use Rattle.state.specs.declared.State.{State}
 use Rattle.writer.specs.declared.Answer.{Answer}
 use Rattle.writer.specs.Calls.{OpenEventSays}
 use Rattle.closing.specs.Closing.{CloseSays}
-use Rattle.claims.specs.Order.{Bench, Post, PostRun, Apart}
+use Rattle.owners.specs.Order.{Bench, Post, PostRun, Apart}
 
 -- ---- one event, by the contracts of its calls
 

@@ -26,9 +26,9 @@ use Rattle.refusing.specs.Tables.{closingItems}
 use Rattle.writer.specs.CallsLaws.{done}
 use Rattle.refusing.specs.TablesLaws.{open-event-accepted}
 use Rattle.state.specs.StateLaws.{block-says}
-use Rattle.claims.specs.Order.{Bench, Post, Differ, Apart}
-use Rattle.claims.specs.OrderLaws.{answerOf, after, posts, answered, zero-or, either-way, marked, left, has, after-done, after-refused, fits, number-after}
-use Rattle.claims.specs.Own.{JustOpened, postedWindow}
+use Rattle.owners.specs.Order.{Bench, Post, Differ, Apart}
+use Rattle.owners.specs.OrderLaws.{answerOf, after, posts, answered, zero-or, either-way, marked, left, has, after-done, after-refused, fits, number-after}
+use Rattle.owners.specs.Own.{JustOpened, postedWindow}
 
 -- the window that channel c posts of a list, each post answered as if it came first
 abbrev pub windowFor : Bench → List Post → ℕ → List (List ℕ)

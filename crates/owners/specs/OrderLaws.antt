@@ -23,7 +23,7 @@ use Rattle.refusing.specs.Tables.{postTable, postNumber}
 use Rattle.writer.specs.CallsLaws.{done, refused, row-fits}
 use Rattle.refusing.specs.TablesLaws.{PostAccepted, post-accepted}
 use Rattle.rows.specs.RowsLaws.{row-end}
-use Rattle.claims.specs.Order.{Bench, Post, PostRun, none, one, Differ, Apart}
+use Rattle.owners.specs.Order.{Bench, Post, PostRun, none, one, Differ, Apart}
 
 -- ---- posts by equations
 

@@ -33,10 +33,10 @@ use Rattle.state.specs.State.{withClosed}
 use Rattle.refusing.specs.Tables.{closingItems, closeNumber}
 use Rattle.writer.specs.CallsLaws.{done}
 use Rattle.refusing.specs.TablesLaws.{close-accepted}
-use Rattle.claims.specs.Order.{Bench, Post}
-use Rattle.claims.specs.OrderLaws.{run-posts}
-use Rattle.claims.specs.Own.{EventRun, settingsIn, postedWindow, closedWords, channelTypes, isOwn, ofChannel, wordsFor}
-use Rattle.claims.specs.OwnLaws.{windowFor, itemsFor, ownItems, window-out, own-records}
+use Rattle.owners.specs.Order.{Bench, Post}
+use Rattle.owners.specs.OrderLaws.{run-posts}
+use Rattle.owners.specs.Own.{EventRun, settingsIn, postedWindow, closedWords, channelTypes, isOwn, ofChannel, wordsFor}
+use Rattle.owners.specs.OwnLaws.{windowFor, itemsFor, ownItems, window-out, own-records}
 
 -- ---- whose a word is
 
