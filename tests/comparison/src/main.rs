@@ -7,6 +7,7 @@ mod writing;
 use second::cases::{LIMIT_CASES, SEED};
 use std::fmt::{Debug, Display};
 use std::process::ExitCode;
+use std::sync::atomic::{AtomicBool, Ordering};
 use table::{Call, Table};
 
 const USAGE: &str = "tests/compare [--long] [--seed NUMBER]\ntests/replay KIND SEED NUMBER\n";
@@ -31,6 +32,9 @@ static KINDS: [Kind; 7] = [
 /// The cases of all kinds are taken in turns, a round of each, so that a difference shows early.
 const ROUNDS: u64 = 50;
 
+/// So many threads share the rounds.
+const THREADS: usize = 2;
+
 pub struct Run {
     /// Where the lister is.
     lister: String,
@@ -41,6 +45,17 @@ pub struct Run {
 }
 
 impl Run {
+    fn new(lister: &str) -> Run {
+        Run { lister: lister.to_string(), met: Table::new(), longest_event: 0, most_events: 0 }
+    }
+
+    /// With what another thread met.
+    fn join(&mut self, other: &Run) {
+        self.met.join(&other.met);
+        self.longest_event = self.longest_event.max(other.longest_event);
+        self.most_events = self.most_events.max(other.most_events);
+    }
+
     /// Counts a call's answer, 0 or its refusal, if what both sides gave is the same.
     fn same<T: PartialEq + Debug>(
         &mut self,
@@ -75,10 +90,37 @@ fn cases(round: u64, times: u64) -> impl Iterator<Item = (&'static Kind, u64)> {
     })
 }
 
-fn compare(run: &mut Run, seed: u64, times: u64) -> Result<(), String> {
-    for (kind, number) in (0..ROUNDS * times).flat_map(|round| cases(round, times)) {
-        one(run, kind, seed, number)?;
+/// Every so many-th round from the first on, up to a difference here or in another thread.
+fn share(
+    run: &mut Run,
+    first: usize,
+    seed: u64,
+    times: u64,
+    stop: &AtomicBool,
+) -> Result<(), String> {
+    let rounds = (0..ROUNDS * times).skip(first).step_by(THREADS);
+    for (kind, number) in rounds.flat_map(|round| cases(round, times)) {
+        if stop.load(Ordering::Relaxed) {
+            return Ok(());
+        }
+        one(run, kind, seed, number).inspect_err(|_| stop.store(true, Ordering::Relaxed))?;
     }
+    Ok(())
+}
+
+fn compare(run: &mut Run, seed: u64, times: u64) -> Result<(), String> {
+    let stop = &AtomicBool::new(false);
+    let mut runs: [Run; THREADS] = std::array::from_fn(|_| Run::new(&run.lister));
+    let results: Vec<Result<(), String>> = std::thread::scope(|scope| {
+        let shares: Vec<_> = runs
+            .iter_mut()
+            .enumerate()
+            .map(|(first, own)| scope.spawn(move || share(own, first, seed, times, stop)))
+            .collect();
+        shares.into_iter().map(|share| share.join().expect("a thread of the comparison")).collect()
+    });
+    runs.iter().for_each(|own| run.join(own));
+    results.into_iter().collect::<Result<(), String>>()?;
     if run.longest_event <= 12_000 || run.most_events < 255 {
         return Err("no event of more than 12,000 words, or no block of 255 events".to_string());
     }
@@ -119,8 +161,7 @@ fn main() -> ExitCode {
     let arguments: Vec<String> = std::env::args().skip(1).collect();
     let arguments: Vec<&str> = arguments.iter().map(String::as_str).collect();
     let Some((lister, arguments)) = arguments.split_first() else { return usage() };
-    let mut run =
-        Run { lister: lister.to_string(), met: Table::new(), longest_event: 0, most_events: 0 };
+    let mut run = Run::new(lister);
     let result = match *arguments {
         ["--case", name, seed, number] => {
             let kind = KINDS.iter().find(|kind| kind.name == name);

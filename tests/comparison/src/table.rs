@@ -56,6 +56,13 @@ impl Table {
         Ok(())
     }
 
+    /// Counts what another table has too.
+    pub fn join(&mut self, other: &Table) {
+        for (own, more) in self.0.iter_mut().flatten().zip(other.0.iter().flatten()) {
+            *own += more;
+        }
+    }
+
     /// How often these calls were made.
     pub fn made(&self, calls: &[Call]) -> u64 {
         calls.iter().flat_map(|&call| self.0[call as usize]).sum()
