@@ -17,7 +17,7 @@ use Rattle.scan.specs.declared.Scan.{Scan}
 use Rattle.reader.specs.declared.Step.{Step}
 use Rattle.reader.specs.declared.Judged.{Judged}
 use Rattle.reader.specs.Reader.{endNumber}
-use Rattle.scan.specs.Meaning.{meaningAt, isEnd}
+use Rattle.meaning.specs.Meaning.{meaningAt, isEnd}
 use Rattle.questions.specs.Questions.{refusals, refusalOf}
 use Rattle.reader.specs.Answers.{stepNumber, judgedNumber, numberAt, StepSays, JudgedSays}
 use Rattle.state.specs.declared.State.{State}

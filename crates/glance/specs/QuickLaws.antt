@@ -20,10 +20,10 @@ use Rattle.items.specs.declared.Item.the-variants as I
 use Rattle.scan.specs.declared.Scan.{Scan}
 use Rattle.scan.specs.declared.Stage.{Stage}
 use Rattle.scan.specs.declared.Stage.the-variants as P
-use Rattle.scan.specs.declared.Meaning.the-variants as M
-use Rattle.scan.specs.Meaning.{meaningAt, meaningIn, moreBy, allowedBy, otherBy}
-use Rattle.scan.specs.MeaningLaws.{meaning-more, meaning-type}
 use Rattle.scan.specs.After.{onward, after, pairedBy}
+use Rattle.meaning.specs.declared.Meaning.the-variants as M
+use Rattle.meaning.specs.Meaning.{meaningAt, meaningIn, moreBy, allowedBy, otherBy}
+use Rattle.meaning.specs.MeaningLaws.{meaning-more, meaning-type}
 use Rattle.questions.specs.Questions.{atLimit, refusals}
 use Rattle.reader.specs.declared.Judged.the-variants as J
 use Rattle.reader.specs.declared.Step.the-variants as S

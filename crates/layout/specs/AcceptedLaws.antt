@@ -16,10 +16,10 @@ use Rattle.items.specs.Items.{wordOf, fits, formOf, itemFrom, fixedIn, isOf}
 use Rattle.items.specs.declared.Form.{Form}
 use Rattle.items.specs.declared.Form.the-variants as F
 use Rattle.scan.specs.declared.Scan.{Scan}
-use Rattle.scan.specs.declared.Meaning.the-variants as M
-use Rattle.scan.specs.Meaning.{unfinished}
-use Rattle.scan.specs.MeaningLaws.{meaning-alike, meaning-is}
 use Rattle.scan.specs.After.{startOf}
+use Rattle.meaning.specs.declared.Meaning.the-variants as M
+use Rattle.meaning.specs.Meaning.{unfinished}
+use Rattle.meaning.specs.MeaningLaws.{meaning-alike, meaning-is}
 use Rattle.questions.specs.Questions.{atLimit, itemWrong}
 use Rattle.reader.specs.declared.Step.{Step}
 use Rattle.reader.specs.declared.Step.the-variants as S

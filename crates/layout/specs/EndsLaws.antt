@@ -16,10 +16,10 @@ use Rattle.items.specs.declared.Item.{Item}
 use Rattle.items.specs.declared.Item.the-variants as I
 use Rattle.scan.specs.declared.Stage.the-variants as P
 use Rattle.scan.specs.declared.Scan.{Scan}
-use Rattle.scan.specs.declared.Meaning.the-variants as M
-use Rattle.scan.specs.Meaning.{allowedIn, otherIn, meaningIn, meaningAt, isEnd}
-use Rattle.scan.specs.MeaningLaws.{meaning-type}
 use Rattle.scan.specs.After.{filledBy, after, startOf}
+use Rattle.meaning.specs.declared.Meaning.the-variants as M
+use Rattle.meaning.specs.Meaning.{allowedIn, otherIn, meaningIn, meaningAt, isEnd}
+use Rattle.meaning.specs.MeaningLaws.{meaning-type}
 use Rattle.questions.specs.Questions.{atLimit}
 use Rattle.reader.specs.Reader.{stepAt, judgeAt, Whole, Broken, endOf, Reading, just, readFrom}
 use Rattle.layout.specs.LayoutLaws.{behind}

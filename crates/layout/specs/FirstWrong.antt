@@ -17,9 +17,9 @@ use Rattle.items.specs.declared.Item.the-variants as I
 use Rattle.scan.specs.declared.Stage.{Stage}
 use Rattle.scan.specs.declared.Stage.the-variants as P
 use Rattle.scan.specs.declared.Scan.{Scan}
-use Rattle.scan.specs.declared.Meaning.the-variants as M
-use Rattle.scan.specs.Meaning.{meaningIn, meaningAt, isEnd, unfinishedBy, unfinished}
 use Rattle.scan.specs.After.{onward, pairedBy, filledBy, stageAfter, after, startOf}
+use Rattle.meaning.specs.declared.Meaning.the-variants as M
+use Rattle.meaning.specs.Meaning.{meaningIn, meaningAt, isEnd, unfinishedBy, unfinished}
 use Rattle.questions.specs.Questions.{atLimit}
 use Rattle.reader.specs.declared.Step.{Step}
 use Rattle.reader.specs.declared.Step.the-variants as S

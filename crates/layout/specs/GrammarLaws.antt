@@ -26,10 +26,10 @@ use Rattle.items.specs.declared.Item.the-variants as I
 use Rattle.scan.specs.declared.Stage.{Stage}
 use Rattle.scan.specs.declared.Stage.the-variants as P
 use Rattle.scan.specs.declared.Scan.{Scan}
-use Rattle.scan.specs.declared.Meaning.the-variants as M
-use Rattle.scan.specs.Meaning.{moreBy, moreIn, allowedIn, otherIn, meaningIn, meaningAt, unfinishedBy}
-use Rattle.scan.specs.MeaningLaws.{meaning-more, meaning-type}
 use Rattle.scan.specs.After.{onward, pairedBy, filledBy, slotAfter, after, startOf}
+use Rattle.meaning.specs.declared.Meaning.the-variants as M
+use Rattle.meaning.specs.Meaning.{moreBy, moreIn, allowedIn, otherIn, meaningIn, meaningAt, unfinishedBy}
+use Rattle.meaning.specs.MeaningLaws.{meaning-more, meaning-type}
 use Rattle.questions.specs.Questions.{atLimit, slotWrong, flagBy, flagWrong, itemWrong, countWrong}
 use Rattle.layout.specs.Layout.{Stands, Follow, IsBlock}
 use Rattle.layout.specs.LayoutLaws.{says}

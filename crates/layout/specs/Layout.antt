@@ -5,9 +5,9 @@ use mathlib.Core.List.{List, [], _∷_}
 use Rattle.items.specs.Items.{wordOf, fits, formOf}
 use Rattle.items.specs.declared.Item.{Item}
 use Rattle.scan.specs.declared.Scan.{Scan}
-use Rattle.scan.specs.declared.Meaning.the-variants as M
-use Rattle.scan.specs.Meaning.{meaningAt, unfinished}
 use Rattle.scan.specs.After.{startOf, after}
+use Rattle.meaning.specs.declared.Meaning.the-variants as M
+use Rattle.meaning.specs.Meaning.{meaningAt, unfinished}
 use Rattle.questions.specs.Questions.{atLimit, slotWrong, itemWrong, countWrong}
 
 -- the record may stand where the reading of a block stands

@@ -21,10 +21,10 @@ use Rattle.items.specs.Items.{wordOf, wordsOf, fits, formOf, itemFrom, fixedIn,
 use Rattle.items.specs.declared.Item.{Item}
 use Rattle.items.specs.declared.Item.the-variants as I
 use Rattle.scan.specs.declared.Scan.{Scan}
-use Rattle.scan.specs.declared.Meaning.the-variants as M
-use Rattle.scan.specs.Meaning.{meaningAt}
-use Rattle.scan.specs.MeaningLaws.{meaning-alike}
 use Rattle.scan.specs.After.{startOf, after}
+use Rattle.meaning.specs.declared.Meaning.the-variants as M
+use Rattle.meaning.specs.Meaning.{meaningAt}
+use Rattle.meaning.specs.MeaningLaws.{meaning-alike}
 use Rattle.questions.specs.Questions.{atLimit, refusalOf}
 use Rattle.reader.specs.declared.Step.the-variants as S
 use Rattle.reader.specs.Reader.{then, Whole, stepAt, endOf, readFrom}

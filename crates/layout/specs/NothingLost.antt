@@ -14,7 +14,7 @@ use Rattle.items.specs.declared.Form.{Form}
 use Rattle.items.specs.declared.Form.the-variants as F
 use Rattle.items.specs.declared.Item.{Item}
 use Rattle.scan.specs.declared.Scan.{Scan}
-use Rattle.scan.specs.MeaningLaws.{meaning-is}
+use Rattle.meaning.specs.MeaningLaws.{meaning-is}
 use Rattle.questions.specs.Questions.{itemWrong}
 use Rattle.reader.specs.declared.Step.{Step}
 use Rattle.reader.specs.declared.Step.the-variants as S

@@ -28,10 +28,10 @@ use Rattle.items.specs.declared.Item.the-variants as I
 use Rattle.scan.specs.declared.Stage.{Stage}
 use Rattle.scan.specs.declared.Stage.the-variants as P
 use Rattle.scan.specs.declared.Scan.{Scan}
-use Rattle.scan.specs.declared.Meaning.the-variants as M
-use Rattle.scan.specs.Meaning.{moreBy, moreIn, opening, edges, inner, allowedBy, allowedIn, otherBy, otherIn, meaningIn, unfinishedBy, isUnallowed, isEnd}
-use Rattle.scan.specs.MeaningLaws.{meaning-more, meaning-type}
 use Rattle.scan.specs.After.{onward, pairedBy, filledBy, after, startOf}
+use Rattle.meaning.specs.declared.Meaning.the-variants as M
+use Rattle.meaning.specs.Meaning.{moreBy, moreIn, opening, edges, inner, allowedBy, allowedIn, otherBy, otherIn, meaningIn, unfinishedBy, isUnallowed, isEnd}
+use Rattle.meaning.specs.MeaningLaws.{meaning-more, meaning-type}
 use Rattle.questions.specs.Questions.{flagBy, flagWrong, timeBy}
 use Rattle.layout.specs.Layout.{Stands, Follow, IsBlock}
 use Rattle.layout.specs.LayoutLaws.{says}

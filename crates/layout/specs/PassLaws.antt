@@ -10,9 +10,9 @@ use lib.ListN.{length, length-append}
 use Rattle.items.specs.declared.Form.the-variants as F
 use Rattle.items.specs.declared.Item.{Item}
 use Rattle.scan.specs.declared.Scan.{Scan}
-use Rattle.scan.specs.declared.Meaning.the-variants as M
-use Rattle.scan.specs.Meaning.{inner, allowedIn, otherIn, meaningIn, unfinished}
 use Rattle.scan.specs.After.{onward}
+use Rattle.meaning.specs.declared.Meaning.the-variants as M
+use Rattle.meaning.specs.Meaning.{inner, allowedIn, otherIn, meaningIn, unfinished}
 use Rattle.questions.specs.Questions.{atLimit}
 use Rattle.layout.specs.Layout.{Follow}
 

@@ -10,10 +10,10 @@ use Rattle.ground.specs.Tests.{firstOf, FirstIs}
 use Rattle.items.specs.Items.{itemFrom}
 use Rattle.items.specs.declared.Form.{Form}
 use Rattle.scan.specs.declared.Scan.{Scan}
-use Rattle.scan.specs.declared.Meaning.{Meaning}
-use Rattle.scan.specs.declared.Meaning.the-variants as M
-use Rattle.scan.specs.Meaning.{meaningAt, isEnd, unfinished}
 use Rattle.scan.specs.After.{after}
+use Rattle.meaning.specs.declared.Meaning.{Meaning}
+use Rattle.meaning.specs.declared.Meaning.the-variants as M
+use Rattle.meaning.specs.Meaning.{meaningAt, isEnd, unfinished}
 use Rattle.questions.specs.Questions.{atLimit, refusals}
 
 -- ---- what is asked

@@ -13,10 +13,10 @@ use Rattle.ground.specs.TestsLaws.{first-is, is-first}
 use Rattle.items.specs.Items.{itemFrom}
 use Rattle.items.specs.declared.Form.{Form}
 use Rattle.scan.specs.declared.Scan.{Scan}
-use Rattle.scan.specs.declared.Meaning.{Meaning}
-use Rattle.scan.specs.declared.Meaning.the-variants as M
-use Rattle.scan.specs.Meaning.{meaningAt, isEnd}
 use Rattle.scan.specs.After.{startOf, after}
+use Rattle.meaning.specs.declared.Meaning.{Meaning}
+use Rattle.meaning.specs.declared.Meaning.the-variants as M
+use Rattle.meaning.specs.Meaning.{meaningAt, isEnd}
 use Rattle.questions.specs.Questions.{refusals, refusalOf}
 use Rattle.reader.specs.Reader.{stepAt, judgeAt, Whole, Broken, endNumber, outOf, Reading, then, just, readFrom}
 use Rattle.reader.specs.ReaderLaws.{unallowed}

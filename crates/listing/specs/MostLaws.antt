@@ -19,13 +19,13 @@ use Rattle.items.specs.declared.Form.{Form}
 use Rattle.items.specs.declared.Form.the-variants as F
 use Rattle.items.specs.declared.Item.{Item}
 use Rattle.scan.specs.declared.Scan.{Scan}
-use Rattle.scan.specs.declared.Meaning.{Meaning}
-use Rattle.scan.specs.declared.Meaning.the-variants as M
+use Rattle.meaning.specs.declared.Meaning.{Meaning}
+use Rattle.meaning.specs.declared.Meaning.the-variants as M
 use Rattle.reader.specs.declared.Judged.{Judged}
 use Rattle.reader.specs.declared.Judged.the-variants as J
 use Rattle.reader.specs.RunLaws.{items-le}
-use Rattle.scan.specs.Meaning.{meaningAt, isUnallowed, unfinished}
 use Rattle.scan.specs.After.{onward, after, startOf}
+use Rattle.meaning.specs.Meaning.{meaningAt, isUnallowed, unfinished}
 use Rattle.questions.specs.Questions.{atLimit, slotWrong, itemWrong, countWrong, ofForm, refusalOf}
 use Rattle.reader.specs.Reader.{stepBy, stepAt, withItem, judgeAt, Out, Whole, Broken, endOf, Reading, just, onJudged, readFrom}
 use Rattle.reader.specs.declared.Step.the-variants as S

@@ -13,9 +13,9 @@ use Rattle.items.specs.declared.Item.the-variants as I
 use Rattle.scan.specs.declared.Stage.{Stage}
 use Rattle.scan.specs.declared.Stage.the-variants as P
 use Rattle.scan.specs.declared.Scan.{Scan}
-use Rattle.scan.specs.declared.Meaning.{Meaning}
-use Rattle.scan.specs.declared.Meaning.the-variants as M
-use Rattle.scan.specs.Meaning.{isUnallowed, unfinished}
+use Rattle.meaning.specs.declared.Meaning.{Meaning}
+use Rattle.meaning.specs.declared.Meaning.the-variants as M
+use Rattle.meaning.specs.Meaning.{isUnallowed, unfinished}
 
 -- "14 if no trailer was read and its place is 4,194,303"
 unfoldable pub atLimit : Scan → Bool
@@ -123,5 +123,5 @@ refusalOf s m word = firstOf (refusals s m word)
 
 -- a proof that computes opens this file and what it leans on by one name
 unfoldable pub allOpen : Unit {0}
-unfolding atLimit refusalOf Rattle.ground.specs.Tests.allOpen Rattle.framing.specs.Words.allOpen Rattle.raw.specs.Words.allOpen Rattle.items.specs.Items.allOpen Rattle.scan.specs.Meaning.allOpen
+unfolding atLimit refusalOf Rattle.ground.specs.Tests.allOpen Rattle.framing.specs.Words.allOpen Rattle.raw.specs.Words.allOpen Rattle.items.specs.Items.allOpen Rattle.meaning.specs.Meaning.allOpen
 allOpen = tt

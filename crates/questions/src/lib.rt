@@ -15,12 +15,12 @@ use framing::parameters::Parameters;
 use framing::trailer::BlockTrailer;
 use framing::trigger_time_high::TriggerTimeHigh;
 use items::Form;
+use meaning::Meaning;
 use measures::time::PulseTime;
 use raw::pair::SamplePair;
 use raw::pulse_raw::PulseRaw;
 use raw::window::WindowRaw;
 use refusals::Refusal;
-use scan::Meaning;
 use scan::Scan;
 use scan::Stage;
 
@@ -31,7 +31,7 @@ pub fn at_limit(scan: Scan) -> bool
     ensures { λ r. ⌜ r ≡ atLimit scan ⌝ }
 {
     if scan.place == PLACE_MAX {
-        scan::word::is_unfinished(scan)
+        meaning::is_unfinished(scan)
     } else {
         false
     }

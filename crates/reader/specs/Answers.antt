@@ -12,9 +12,9 @@ use Rattle.items.specs.declared.Form.{Form}
 use Rattle.items.specs.declared.Form.the-variants as F
 use Rattle.items.specs.declared.Item.{Item}
 use Rattle.scan.specs.declared.Scan.{Scan}
-use Rattle.scan.specs.declared.Meaning.{Meaning}
-use Rattle.scan.specs.declared.Meaning.the-variants as M
-use Rattle.scan.specs.Meaning.{meaningAt, isEnd}
+use Rattle.meaning.specs.declared.Meaning.{Meaning}
+use Rattle.meaning.specs.declared.Meaning.the-variants as M
+use Rattle.meaning.specs.Meaning.{meaningAt, isEnd}
 use Rattle.questions.specs.Questions.{refusalOf}
 use Rattle.reader.specs.declared.Step.{Step}
 use Rattle.reader.specs.declared.Step.the-variants as S

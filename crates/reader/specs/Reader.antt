@@ -7,10 +7,10 @@ use Rattle.ground.specs.Tests.{firstOf}
 use Rattle.items.specs.Items.{itemFrom}
 use Rattle.items.specs.declared.Item.{Item}
 use Rattle.scan.specs.declared.Scan.{Scan}
-use Rattle.scan.specs.declared.Meaning.{Meaning}
-use Rattle.scan.specs.declared.Meaning.the-variants as M
-use Rattle.scan.specs.Meaning.{meaningAt, unfinished}
 use Rattle.scan.specs.After.{after}
+use Rattle.meaning.specs.declared.Meaning.{Meaning}
+use Rattle.meaning.specs.declared.Meaning.the-variants as M
+use Rattle.meaning.specs.Meaning.{meaningAt, unfinished}
 use Rattle.questions.specs.Questions.{atLimit, refusalOf}
 use Rattle.reader.specs.declared.Step.{Step}
 use Rattle.reader.specs.declared.Step.the-variants as S
@@ -88,5 +88,5 @@ checkFrom s (word ∷ words) = onStep (stepAt s word) (s .place) (λ t. checkFro
 
 -- a proof that computes opens this file and what it leans on by one name
 unfoldable pub allOpen : Unit {0}
-unfolding stepAt judgeAt endOf endNumber readFrom checkFrom Rattle.ground.specs.Tests.allOpen Rattle.items.specs.Items.allOpen Rattle.scan.specs.Meaning.allOpen Rattle.scan.specs.After.allOpen Rattle.questions.specs.Questions.allOpen
+unfolding stepAt judgeAt endOf endNumber readFrom checkFrom Rattle.ground.specs.Tests.allOpen Rattle.items.specs.Items.allOpen Rattle.meaning.specs.Meaning.allOpen Rattle.scan.specs.After.allOpen Rattle.questions.specs.Questions.allOpen
 allOpen = tt

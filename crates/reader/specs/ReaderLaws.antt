@@ -11,11 +11,11 @@ use Rattle.ground.specs.TestsLaws.{and-left, AllOff, none}
 use Rattle.items.specs.Items.{itemFrom}
 use Rattle.items.specs.declared.Form.{Form}
 use Rattle.scan.specs.declared.Scan.{Scan}
-use Rattle.scan.specs.declared.Meaning.{Meaning}
-use Rattle.scan.specs.declared.Meaning.the-variants as M
-use Rattle.scan.specs.Meaning.{meaningAt, isEnd, unfinished}
-use Rattle.scan.specs.MeaningLaws.{no-end, end-tail}
 use Rattle.scan.specs.After.{after}
+use Rattle.meaning.specs.declared.Meaning.{Meaning}
+use Rattle.meaning.specs.declared.Meaning.the-variants as M
+use Rattle.meaning.specs.Meaning.{meaningAt, isEnd, unfinished}
+use Rattle.meaning.specs.MeaningLaws.{no-end, end-tail}
 use Rattle.questions.specs.Questions.{atLimit, refusals, refusalOf}
 use Rattle.reader.specs.declared.Step.{Step}
 use Rattle.reader.specs.declared.Step.the-variants as S

@@ -9,7 +9,7 @@ use lib.Seq.{drop-cons}
 use Rattle.ground.specs.Tests.{firstOf}
 use Rattle.items.specs.declared.Item.{Item}
 use Rattle.scan.specs.declared.Scan.{Scan}
-use Rattle.scan.specs.Meaning.{unfinished}
+use Rattle.meaning.specs.Meaning.{unfinished}
 use Rattle.questions.specs.Questions.{atLimit}
 use Rattle.reader.specs.declared.Judged.{Judged}
 use Rattle.reader.specs.declared.Judged.the-variants as J

@@ -7,8 +7,8 @@ ghost use Rattle.reader.specs.Reader.{stepBy, endNumber};
 ghost use Rattle.reader.specs.Answers.{StepSays, JudgedSays};
 use items::Form;
 use items::Item;
+use meaning::Meaning;
 use refusals::Refusal;
-use scan::Meaning;
 use scan::Scan;
 use scan::Stage;
 
@@ -52,7 +52,7 @@ pub fn step_at(scan: Scan, word: u32) -> Step
     if let Stage::Window(n, odd) = p {
         return window::window_step(scan, n, odd, word);
     }
-    let meaning = scan::word::meaning_at(scan, word);
+    let meaning = meaning::meaning_at(scan, word);
     match meaning {
         Meaning::Form(form) => form_step(scan, form, word),
         Meaning::Unallowed => Step::Refused(refusals::number(Refusal::Unallowed), scan.place),
@@ -67,7 +67,7 @@ pub fn at_end(scan: Scan) -> u32
     if questions::at_limit(scan) {
         return refusals::number(Refusal::Count);
     }
-    if scan::word::is_unfinished(scan) {
+    if meaning::is_unfinished(scan) {
         refusals::number(Refusal::Missing)
     } else {
         0

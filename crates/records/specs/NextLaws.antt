@@ -20,18 +20,18 @@ use Rattle.items.specs.declared.Form.{Form}
 use Rattle.items.specs.declared.Form.the-variants as F
 use Rattle.items.specs.declared.Item.{Item}
 use Rattle.items.specs.declared.Item.the-variants as I
-use Rattle.scan.specs.Meaning.{moreBy, moreIn, opening, edges, inner, allowedBy, allowedIn, otherBy, otherIn, meaningIn, meaningAt, unfinishedBy, unfinished}
 use Rattle.scan.specs.After.{onward, filledBy, after}
+use Rattle.meaning.specs.Meaning.{moreBy, moreIn, opening, edges, inner, allowedBy, allowedIn, otherBy, otherIn, meaningIn, meaningAt, unfinishedBy, unfinished}
 use Rattle.questions.specs.Questions.{atLimit}
 use Rattle.reader.specs.Reader.{stepAt, withItem, judgeAt, Whole, Broken, endOf, endNumber, just, then, Reading, readFrom}
-use Rattle.scan.specs.MeaningLaws.{filler-tail}
+use Rattle.meaning.specs.MeaningLaws.{filler-tail}
 use Rattle.reader.specs.ReaderLaws.{judge-by, Accepted, accepted}
 use Rattle.reader.specs.RunLaws.{before, read-at, end-by}
 use Rattle.scan.specs.declared.Stage.{Stage}
 use Rattle.scan.specs.declared.Stage.the-variants as P
 use Rattle.scan.specs.declared.Scan.{Scan}
-use Rattle.scan.specs.declared.Meaning.{Meaning}
-use Rattle.scan.specs.declared.Meaning.the-variants as M
+use Rattle.meaning.specs.declared.Meaning.{Meaning}
+use Rattle.meaning.specs.declared.Meaning.the-variants as M
 use Rattle.reader.specs.declared.Step.{Step}
 use Rattle.reader.specs.declared.Step.the-variants as S
 use Rattle.reader.specs.declared.Judged.{Judged}

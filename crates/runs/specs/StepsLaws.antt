@@ -23,11 +23,11 @@ use Rattle.items.specs.declared.Form.the-variants as F
 use Rattle.scan.specs.declared.Stage.{Stage}
 use Rattle.scan.specs.declared.Stage.the-variants as P
 use Rattle.scan.specs.declared.Scan.{Scan}
-use Rattle.scan.specs.declared.Meaning.{Meaning}
-use Rattle.scan.specs.declared.Meaning.the-variants as M
-use Rattle.scan.specs.Meaning.{inner, meaningIn, meaningAt, unfinishedBy, unfinished}
-use Rattle.scan.specs.MeaningLaws.{meaning-type, meaning-more}
 use Rattle.scan.specs.After.{onward, after}
+use Rattle.meaning.specs.declared.Meaning.{Meaning}
+use Rattle.meaning.specs.declared.Meaning.the-variants as M
+use Rattle.meaning.specs.Meaning.{inner, meaningIn, meaningAt, unfinishedBy, unfinished}
+use Rattle.meaning.specs.MeaningLaws.{meaning-type, meaning-more}
 use Rattle.questions.specs.Questions.{atLimit, refusals, refusalOf}
 use Rattle.reader.specs.Reader.{stepBy, stepAt, onStep, checkFrom}
 use Rattle.reader.specs.ReaderLaws.{step-form}

@@ -1,10 +1,8 @@
-// Where the reading of a block stands, what a word may be there, and where it stands behind it.
+// Where the reading of a block stands, and where it stands behind a word.
 ghost use mathlib.Core.Path.{_≡_};
 ghost use Rattle.scan.specs.After.{startOf};
-use items::Form;
 
 pub mod after;
-pub mod word;
 
 // Where in a block the next word stands.
 pub enum Stage {
@@ -32,13 +30,6 @@ pub struct Scan {
     pub slot: u32,
     pub left: u32,
     pub stage: Stage,
-}
-
-// What a word is at a place: a record of that form, one that may not stand here, or the block ends before it.
-pub enum Meaning {
-    Form(Form),
-    Unallowed,
-    End,
 }
 
 impl Scan {

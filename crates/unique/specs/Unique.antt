@@ -50,6 +50,7 @@ use Rattle.closing.proofs as closing
 use Rattle.closing.specs.ClosingLaws as closed
 use Rattle.writer.specs.UniqueLaws as W
 use Rattle.scan.proofs as scan
+use Rattle.meaning.proofs as meaning
 use Rattle.questions.proofs as questions
 use Rattle.reader.proofs as reader
 use Rattle.rawitems.proofs as rawitems
@@ -579,10 +580,11 @@ moved-unique κs a r s u v p q = by-equation p q
 pub scan-after-unique : Unique scan.after.scan_after.ended scan.after.scan_after.Reads.Learnt
 scan-after-unique κs a r s u v p q = by-equation p q
 
-pub meaning-at-unique : Unique scan.word.meaning_at.ended scan.word.meaning_at.Reads.Learnt
+-- meaning
+pub meaning-at-unique : Unique meaning.meaning_at.ended meaning.meaning_at.Reads.Learnt
 meaning-at-unique κs a r s u v p q = by-equation p q
 
-pub is-unfinished-unique : Unique scan.word.is_unfinished.ended scan.word.is_unfinished.Reads.Learnt
+pub is-unfinished-unique : Unique meaning.is_unfinished.ended meaning.is_unfinished.Reads.Learnt
 is-unfinished-unique κs a r s u v p q = by-equation p q
 
 -- questions

@@ -3,7 +3,7 @@ use mathlib.Core.Path.{sym, _∙_}
 use mathlib.Core.Bool.{and-true, and-false}
 use borrow.Author.Tests.{ne-eqb}
 use borrow.Author.Needs.{needs}
-use Rattle.scan.specs.Meaning.{unfinished}
+use Rattle.meaning.specs.Meaning.{unfinished}
 use Rattle.questions.specs.Questions.{atLimit}
 use Rattle.questions.proofs.at_limit.Statement.{statement}
 use Rattle.questions.proofs.at_limit.Tie as tie

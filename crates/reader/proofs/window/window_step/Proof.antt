@@ -6,8 +6,8 @@ use Rattle.ground.specs.Tests.{firstOf}
 use Rattle.raw.specs.Words.{pairOf, pairFixed}
 use Rattle.items.specs.Items.{itemFrom}
 use Rattle.items.specs.declared.Form.the-variants as F
-use Rattle.scan.specs.MeaningLaws.{window-pair, window-other}
 use Rattle.scan.specs.After.{after}
+use Rattle.meaning.specs.MeaningLaws.{window-pair, window-other}
 use Rattle.questions.specs.Questions.{itemWrong}
 use Rattle.reader.specs.ReaderLaws.{step-form, step-unallowed}
 use Rattle.reader.proofs.Via.{via}

@@ -1,16 +1,16 @@
--- `scan::word::is_unfinished` meets its contract.
+-- `meaning::is_unfinished` meets its contract.
 use mathlib.Core.Path.{_≡_, refl}
 use mathlib.Core.Bool.{true}
 use mathlib.Core.List.{[], _∷_}
 use types.Run.{OneOf, miss}
 use denote.Enum.Declared.{tagOf}
 use borrow.Author.Needs.{needs}
 use Rattle.scan.specs.declared.Stage.{Stage}
 use Rattle.scan.specs.declared.Stage.the-variants as P
-use Rattle.scan.specs.Meaning.{unfinishedBy}
 use Rattle.scan.proofs.Stage.{the-type}
-use Rattle.scan.proofs.word.is_unfinished.Statement.{statement}
-use Rattle.scan.proofs.word.is_unfinished.Tie as tie
+use Rattle.meaning.specs.Meaning.{unfinishedBy}
+use Rattle.meaning.proofs.is_unfinished.Statement.{statement}
+use Rattle.meaning.proofs.is_unfinished.Tie as tie
 
 -- all but the tail
 other : (p : Stage) → OneOf (0 ∷ 1 ∷ 2 ∷ 3 ∷ 4 ∷ 5 ∷ 6 ∷ 7 ∷ []) (tagOf the-type p) → true ≡ unfinishedBy p

@@ -1,7 +1,7 @@
--- `scan::word::more_meaning` meets its contract.
+-- `meaning::more_meaning` meets its contract.
 use borrow.Author.Needs.{needs}
-use Rattle.scan.proofs.word.more_meaning.Statement.{statement}
-use Rattle.scan.proofs.word.more_meaning.Tie as tie
+use Rattle.meaning.proofs.more_meaning.Statement.{statement}
+use Rattle.meaning.proofs.more_meaning.Tie as tie
 
 returns-2 : tie.Need-returns-2
 returns-2 c = rw (c .enum-told2 .given .1)

@@ -1,7 +1,7 @@
--- `scan::word::start_meaning` meets its contract.
+-- `meaning::start_meaning` meets its contract.
 use borrow.Author.Tests.{ne-eqb}
-use Rattle.scan.proofs.word.start_meaning.Statement.{statement}
-use Rattle.scan.proofs.word.start_meaning.Tie as tie
+use Rattle.meaning.proofs.start_meaning.Statement.{statement}
+use Rattle.meaning.proofs.start_meaning.Tie as tie
 
 returns : tie.Need-returns
 returns c = rw (c .match .keys1)

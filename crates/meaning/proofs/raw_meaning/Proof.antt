@@ -1,7 +1,7 @@
--- `scan::word::raw_meaning` meets its contract.
+-- `meaning::raw_meaning` meets its contract.
 use borrow.Author.Needs.{needs}
-use Rattle.scan.proofs.word.raw_meaning.Statement.{statement}
-use Rattle.scan.proofs.word.raw_meaning.Tie as tie
+use Rattle.meaning.proofs.raw_meaning.Statement.{statement}
+use Rattle.meaning.proofs.raw_meaning.Tie as tie
 
 returns : tie.Need-returns
 returns c = rw (c .before .if1 .taken) (c .inner-meaning .ensures)

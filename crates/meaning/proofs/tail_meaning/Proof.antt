@@ -1,7 +1,7 @@
--- `scan::word::tail_meaning` meets its contract.
+-- `meaning::tail_meaning` meets its contract.
 use borrow.Author.Tests.{ne-eqb}
-use Rattle.scan.proofs.word.tail_meaning.Statement.{statement}
-use Rattle.scan.proofs.word.tail_meaning.Tie as tie
+use Rattle.meaning.proofs.tail_meaning.Statement.{statement}
+use Rattle.meaning.proofs.tail_meaning.Tie as tie
 
 returns : tie.Need-returns
 returns c = rw (c .if1 .taken)

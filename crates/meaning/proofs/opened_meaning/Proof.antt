@@ -1,8 +1,8 @@
--- `scan::word::opened_meaning` meets its contract.
+-- `meaning::opened_meaning` meets its contract.
 use borrow.Author.Tests.{ne-eqb}
 use borrow.Author.Needs.{needs}
-use Rattle.scan.proofs.word.opened_meaning.Statement.{statement}
-use Rattle.scan.proofs.word.opened_meaning.Tie as tie
+use Rattle.meaning.proofs.opened_meaning.Statement.{statement}
+use Rattle.meaning.proofs.opened_meaning.Tie as tie
 
 returns : tie.Need-returns
 returns c = rw (c .if1 .taken)

@@ -1,7 +1,7 @@
--- `scan::word::type_meaning` meets its contract.
+-- `meaning::type_meaning` meets its contract.
 use borrow.Author.Needs.{needs}
-use Rattle.scan.proofs.word.type_meaning.Statement.{statement}
-use Rattle.scan.proofs.word.type_meaning.Tie as tie
+use Rattle.meaning.proofs.type_meaning.Statement.{statement}
+use Rattle.meaning.proofs.type_meaning.Tie as tie
 
 returns : tie.Need-returns
 returns c = simp (c .start-meaning .ensures, c .before .enum-told .given .1)

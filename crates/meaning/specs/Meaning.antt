@@ -7,11 +7,11 @@ use Rattle.fields.specs.Word.{read}
 use Rattle.items.specs.Items.{typeOf}
 use Rattle.items.specs.declared.Form.{Form}
 use Rattle.items.specs.declared.Form.the-variants as F
 use Rattle.scan.specs.declared.Stage.{Stage}
 use Rattle.scan.specs.declared.Stage.the-variants as P
 use Rattle.scan.specs.declared.Scan.{Scan}
-use Rattle.scan.specs.declared.Meaning.{Meaning}
-use Rattle.scan.specs.declared.Meaning.the-variants as M
+use Rattle.meaning.specs.declared.Meaning.{Meaning}
+use Rattle.meaning.specs.declared.Meaning.the-variants as M
 
 -- ---- a continuation
 

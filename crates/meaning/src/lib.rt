@@ -3,10 +3,7 @@ ghost use mathlib.Core.Path.{_≡_};
 ghost use mathlib.Core.Bool.{cond};
 ghost use mathlib.Core.List.{[], _∷_};
 ghost use lib.Dec.{eqb};
-ghost use Rattle.scan.specs.Meaning.{moreIn, edges, inner, opening, allowedIn, otherIn, meaningIn, meaningAt, unfinished};
-use crate::Meaning;
-use crate::Scan;
-use crate::Stage;
+ghost use Rattle.meaning.specs.Meaning.{moreIn, edges, inner, opening, allowedIn, otherIn, meaningIn, meaningAt, unfinished};
 use framing::block_header::BlockHeader;
 use framing::empty::ModuleEmpty;
 use framing::event_header::EventHeader;
@@ -19,6 +16,15 @@ use measures::pedestal::PulsePedestal;
 use measures::time::PulseTime;
 use raw::pulse_raw::PulseRaw;
 use raw::window::WindowRaw;
+use scan::Scan;
+use scan::Stage;
+
+// What a word is at a place: a record of that form, one that may not stand here, or the block ends before it.
+pub enum Meaning {
+    Form(Form),
+    Unallowed,
+    End,
+}
 
 // A continuation in a type 6.
 fn raw_more(n: u32) -> Meaning

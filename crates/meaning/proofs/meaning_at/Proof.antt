@@ -1,9 +1,9 @@
--- `scan::word::meaning_at` meets its contract.
+-- `meaning::meaning_at` meets its contract.
 use mathlib.Core.Path.{sym, _∙_}
 use Rattle.fields.specs.Tag.{isContinuation}
-use Rattle.scan.specs.Meaning.{meaningAt}
-use Rattle.scan.proofs.word.meaning_at.Statement.{statement}
-use Rattle.scan.proofs.word.meaning_at.Tie as tie
+use Rattle.meaning.specs.Meaning.{meaningAt}
+use Rattle.meaning.proofs.meaning_at.Statement.{statement}
+use Rattle.meaning.proofs.meaning_at.Tie as tie
 
 returns : tie.Need-returns
 unfolding meaningAt isContinuation

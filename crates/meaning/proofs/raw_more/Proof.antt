@@ -1,7 +1,7 @@
--- `scan::word::raw_more` meets its contract.
+-- `meaning::raw_more` meets its contract.
 use borrow.Author.Tests.{ne-eqb}
-use Rattle.scan.proofs.word.raw_more.Statement.{statement}
-use Rattle.scan.proofs.word.raw_more.Tie as tie
+use Rattle.meaning.proofs.raw_more.Statement.{statement}
+use Rattle.meaning.proofs.raw_more.Tie as tie
 
 returns : tie.Need-returns
 returns c = rw (c .if1 .taken)

@@ -13,12 +13,12 @@ use Rattle.fields.specs.WordLaws.{field-lt}
 use Rattle.items.specs.Items.{bitOf, typeOf, isOf}
 use Rattle.items.specs.declared.Form.{Form}
 use Rattle.items.specs.declared.Form.the-variants as F
 use Rattle.scan.specs.declared.Stage.{Stage}
 use Rattle.scan.specs.declared.Stage.the-variants as P
 use Rattle.scan.specs.declared.Scan.{Scan}
-use Rattle.scan.specs.declared.Meaning.{Meaning}
-use Rattle.scan.specs.declared.Meaning.the-variants as M
-use Rattle.scan.specs.Meaning.{moreBy, moreIn, inner, allowedBy, allowedIn, otherBy, otherIn, meaningIn, meaningAt, isEnd, unfinishedBy, unfinished}
+use Rattle.meaning.specs.declared.Meaning.{Meaning}
+use Rattle.meaning.specs.declared.Meaning.the-variants as M
+use Rattle.meaning.specs.Meaning.{moreBy, moreIn, inner, allowedBy, allowedIn, otherBy, otherIn, meaningIn, meaningAt, isEnd, unfinishedBy, unfinished}
 
 -- ---- a continuation, and a defining word of a type
 

@@ -1,7 +1,7 @@
--- `scan::word::inner_meaning` meets its contract.
+-- `meaning::inner_meaning` meets its contract.
 use borrow.Author.Tests.{ne-eqb}
-use Rattle.scan.proofs.word.inner_meaning.Statement.{statement}
-use Rattle.scan.proofs.word.inner_meaning.Tie as tie
+use Rattle.meaning.proofs.inner_meaning.Statement.{statement}
+use Rattle.meaning.proofs.inner_meaning.Tie as tie
 
 returns : tie.Need-returns
 returns c = rw (c .match .keys1)
