@@ -21,7 +21,7 @@ all: $(ARCHIVE)
 
 $(ARCHIVE): $(SOURCES)
 	@echo "proving the library and all that it leans on, then building it: some minutes the first time"
-	for crate in $(EXPORTING); do rt staticlib $$crate || exit 1; done
+	for crate in $(EXPORTING); do tools/here rt staticlib $$crate || exit 1; done
 	cd target && for crate in $(EXPORTING); do ar x staticlib/lib$$crate.a || exit 1; done
 	rm -f $@
 	cd target && ar rcs $(notdir $@) $(OBJECTS) && rm $(OBJECTS)

@@ -47,15 +47,23 @@ static void convert(const uint32_t *window, size_t nw, uint16_t *samples)
         samples[i] = (uint16_t)(window[i] <= 4095 ? window[i] : 8191);
 }
 
+/* Adds a pulse of that height that begins in the quarter of the window behind first. Each call has one drawn number at
+   most: C leaves open which of its arguments is worked out first. */
+static void pulse_behind(uint32_t *window, size_t nw, size_t first, uint32_t height)
+{
+    size_t quarters = any(4);
+    pulse(window, nw, first + any((uint32_t)nw / 4 + 1), quarters, height);
+}
+
 static uint32_t post(uint32_t channel, size_t nw)
 {
     uint32_t window[LONGEST];
     uint16_t samples[LONGEST];
     quiet(window, nw);
     if (any(4) > 0)
-        pulse(window, nw, nw / 8 + any((uint32_t)nw / 4 + 1), any(4), 300 + any(2200));
+        pulse_behind(window, nw, nw / 8, 300 + any(2200));
     if (any(3) == 0)
-        pulse(window, nw, nw / 2 + any((uint32_t)nw / 4 + 1), any(4), any(8) == 0 ? 6000 : 300 + any(1200));
+        pulse_behind(window, nw, nw / 2, any(8) == 0 ? 6000 : 300 + any(1200));
     convert(window, nw, samples);
     return fadc250_post(state, FADC250_STATE, store, CHANNELS * nw, channel, samples, nw);
 }

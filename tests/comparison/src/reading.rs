@@ -200,7 +200,8 @@ pub fn lister(run: &mut Run, seed: u64, number: u64) -> Result<(), String> {
 }
 
 fn listed(program: &str, bytes: &[u8]) -> std::io::Result<Vec<u8>> {
-    let mut child = Command::new(program)
+    let mut child = Command::new("tools/here")
+        .arg(program)
         .stdin(Stdio::piped())
         .stdout(Stdio::piped())
         .stderr(Stdio::null())
