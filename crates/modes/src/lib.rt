@@ -104,6 +104,7 @@ pub fn common_length(
     count_found(mode, nsb, nsa, limit, threshold, row)
 }
 
+// How many words a channel takes: none where nothing can be searched.
 pub fn channel_length(settings: Settings, threshold: u32, row: &[u16]) -> usize
     ensures { λ r. ⌜ r ≡ cond (searchable (length (now (row .entry))) (settings .nsa) (settings .limit)) (length (channelItems (commonOf settings) threshold 0 (now (row .entry)))) 0 ⌝ }
 {
