@@ -124,14 +124,13 @@ odd-single m (suc zero) h f = all-one (f refl)
 odd-single m (suc (suc t)) h f = absurd (omega arith)
 
 -- a header, its pairs of two samples, and the last of an odd width
-pub window-run : {words : List ℕ} {k n : ℕ} (width : ℕ) → isDefining 4 (getD words k 0) && windowFixed (getD words k 0) ≡ true → width ≡ read 11 0 (getD words k 0)
-    → 1 ≤ width → width ≤ 500 → All plain words (k + 1) (k + 1 + n) → n ≡ width / 2 → (width % 2 ≡ 1 → single (getD words (k + 1 + width / 2) 0) ≡ true)
+pub window-run : {words : List ℕ} {k : ℕ} (width : ℕ) → isDefining 4 (getD words k 0) && windowFixed (getD words k 0) ≡ true → width ≡ read 11 0 (getD words k 0)
+    → 1 ≤ width → width ≤ 500 → All plain words (k + 1) (k + 1 + width / 2) → (width % 2 ≡ 1 → single (getD words (k + 1 + width / 2) 0) ≡ true)
     → k + 1 + width / 2 + width % 2 ≤ length words → Passed words k (k + 1 + width / 2 + width % 2)
 unfolding pairsOf
-window-run {words} {k} width d w some most pairs whole odd l =
+window-run {words} {k} width d w some most pairs odd l =
     let n = width / 2 in
     let t = width % 2 in
-    let a : All plain words (k + 1) (k + 1 + n) = rw whole at pairs in
     let half : (width + 1) / 2 ≡ width / 2 + width % 2 = omega arith in
     record {
       ahead = omega arith;
@@ -141,7 +140,7 @@ window-run {words} {k} width d w some most pairs whole odd l =
           ∙ window-passed place slot left (drop (k + 1) words) (omega arith) (getD words k 0) (window-head (getD words k 0) width d w some most)
           ∙ ap (λ (p : Stage). checkFrom (standing (place + 1) slot left p) (drop (k + 1) words))
           (ap (λ (x : ℕ). P.Window (pairsOf x) (eqb (x % 2) 1)) (sym w) ∙ ap (λ (x : ℕ). P.Window x (eqb t 1)) half ∙ to-come (n + t) (eqb t 1) (omega arith))
-          ∙ pairs-passed words t (eqb t 1) (even-or-odd t) n (k + 1) a (omega arith) (place + 1) slot left (omega arith)
+          ∙ pairs-passed words t (eqb t 1) (even-or-odd t) n (k + 1) pairs (omega arith) (place + 1) slot left (omega arith)
           ∙ end-passed words t (omega arith) (k + 1 + n) (odd-single (k + 1 + n) t (omega arith) odd) l (place + 1 + n) slot left (omega arith)
           ∙ ap (λ (m : ℕ). checkFrom (standing m slot left P.Items) (drop (k + 1 + n + t) words)) z);
     }

@@ -53,7 +53,7 @@ pub(crate) fn window_end(bytes: &[u8], k: usize, end: usize, width: usize) -> us
     }
     let from = 4 * (k + 1);
     let to = 4 * full;
-    if stretches::plain_count(&bytes[from..to]) < width / 2 {
+    if !stretches::all_plain(&bytes[from..to]) {
         return k;
     }
     if width % 2 == 0 {

@@ -1,7 +1,7 @@
 -- Words of bytes that are known by their bits alone, one by one and in a row from the first on. Assumes nothing.
 use Prim.Native.Nat.{ℕ, suc, _+_, _*_, _≤_, _<_}
 use mathlib.Core.Path.{_≡_}
-use mathlib.Core.Bool.{Bool, true, cond, _&&_, _||_}
+use mathlib.Core.Bool.{Bool, true, false, cond, _&&_, _||_}
 use mathlib.Core.List.{List, [], _∷_}
 use lib.Dec.{eqb}
 use lib.ListN.{length, getD}
@@ -31,10 +31,20 @@ unfoldable pub leading : (ℕ → Bool) → List ℕ → ℕ
 leading p [] = 0
 leading p (word ∷ words) = cond (p word) (suc (leading p words)) 0
 
+-- whether all words pass it
+unfoldable pub every : (ℕ → Bool) → List ℕ → Bool
+every p [] = true
+every p (word ∷ words) = p word && every p words
+
 -- there are k words, and they are such
 pub record Row (p : ℕ → Bool) (bytes : List ℕ) (k : ℕ) : Type 0 where
   pub within : 4 * k ≤ length bytes
   pub each : (i : ℕ) → i < k → p (getD (wordsOfBytes bytes) i 0) ≡ true
+
+-- what a test of them says: they are such, or not all words are
+pub record Told (p : ℕ → Bool) (bytes : List ℕ) (k : ℕ) (good : Bool) : Type 0 where
+  pub yes : good ≡ true → Row p bytes k
+  pub no : good ≡ false → every p (wordsOfBytes bytes) ≡ false
 
 -- the words from k to before r are such
 pub record All (p : ℕ → Bool) (words : List ℕ) (k r : ℕ) : Type 0 where

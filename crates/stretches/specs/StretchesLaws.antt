@@ -1,15 +1,19 @@
 -- Words in a row: a turn of a search, its end, and what its answer says. Each law is over the test. Assumes nothing.
 use Prim.Native.Nat.{ℕ, zero, suc, _+_, _-_, _*_, _/_, _≤_, _<_}
 use mathlib.Core.Path.{_≡_, refl, sym, ap, _∙_}
-use mathlib.Core.Bool.{Bool, true, false, _&&_, cond}
+use mathlib.Core.Bool.{Bool, true, false, true≢false, _&&_, cond}
 use mathlib.Core.List.{List, [], _∷_}
 use native.Mathlib.Omega.{arith}
 use native.Mathlib.Decide.{decLe}
 use lib.ListN.{length, getD, take, drop}
 use Rattle.ground.specs.TestsLaws.{and-left, and-right}
 use Rattle.fields.specs.Bytes.{wordsOfBytes}
-use Rattle.stretches.specs.Stretches.{leading, Row, All}
+use Rattle.stretches.specs.Stretches.{leading, every, Row, Told, All}
 use Rattle.stretches.specs.WordsLaws.{words-count, word-part, part-length}
+
+and-false : (a : Bool) {b : Bool} → b ≡ false → a && b ≡ false
+and-false true e = e
+and-false false e = refl
 
 -- ---- what is leading
 
@@ -40,6 +44,25 @@ module _ (p : ℕ → Bool) where
       go true e r = record { within = omega (arith, r .within); each = at e r }
       go false e r = record { within = omega arith; each = λ i h. absurd (omega arith) }
 
+  -- ---- all of them
+
+  every-yes : (words : List ℕ) → ((i : ℕ) → i < length words → p (getD words i 0) ≡ true) → every p words ≡ true
+  unfolding every
+  every-yes [] f = refl
+  every-yes (word ∷ words) f = rw (f 0 (omega arith)) (every-yes words (λ i h. f (suc i) (omega arith)))
+
+  every-no : (words : List ℕ) (k : ℕ) → k < length words → p (getD words k 0) ≡ false → every p words ≡ false
+  unfolding every
+  every-no [] k l e = absurd (omega arith)
+  every-no (word ∷ words) zero l e = rw e
+  every-no (word ∷ words) (suc k) l e = and-false (p word) (every-no words k (omega arith) e)
+
+  every-each : (words : List ℕ) → every p words ≡ true → (i : ℕ) → i < length words → p (getD words i 0) ≡ true
+  unfolding every
+  every-each [] e i l = absurd (omega arith)
+  every-each (word ∷ words) e zero l = and-left (p word) (every p words) e
+  every-each (word ∷ words) e (suc i) l = every-each words (and-right (p word) (every p words) e) i (omega arith)
+
 -- ---- a search
 
 module _ {p : ℕ → Bool} {bytes : List ℕ} where
@@ -61,6 +84,24 @@ module _ {p : ℕ → Bool} {bytes : List ℕ} where
       → good && test ≡ true → Row p bytes (k + 1)
   row-turn {good = good} {test = test} r l e h = row-one (r (and-left good test h)) l (sym e ∙ and-right good test h)
 
+  -- the same of a chunk that may say no
+  pub told-none : {k : ℕ} → Row p bytes k → Told p bytes k true
+  told-none r = record { yes = λ h. r; no = λ h. absurd (true≢false h) }
+
+  pub told-turn : {k : ℕ} {good test : Bool} → Told p bytes k good → 4 * k + 4 ≤ length bytes → test ≡ p (getD (wordsOfBytes bytes) k 0) → Told p bytes (k + 1) (good && test)
+  told-turn {k} {good} {test} t l e = record { yes = row-turn (t .yes) l e; no = not-all good refl }
+    where
+      not-all : (b : Bool) → good ≡ b → good && test ≡ false → every p (wordsOfBytes bytes) ≡ false
+      not-all false g h = t .no g
+      not-all true g h = every-no p (wordsOfBytes bytes) k (omega (arith, words-count bytes)) (sym e ∙ (rw g at h))
+
+  -- all words, seen through
+  pub row-all : {k : ℕ} → Row p bytes k → length bytes / 4 ≤ k → true ≡ every p (wordsOfBytes bytes)
+  row-all r l = sym (every-yes p (wordsOfBytes bytes) (λ i h. r .each i (omega (arith, words-count bytes))))
+
+  pub row-less : {j k : ℕ} → j ≤ k → Row p bytes k → Row p bytes j
+  row-less l r = record { within = omega (arith, r .within); each = λ i h. r .each i (omega arith) }
+
   -- the first word that does not pass
   pub row-stop : {k : ℕ} → Row p bytes k → p (getD (wordsOfBytes bytes) k 0) ≡ false → k ≡ leading p (wordsOfBytes bytes)
   row-stop {k} r e = leading-at p (wordsOfBytes bytes) k (omega (arith, r .within, words-count bytes)) (r .each) (λ h. e)
@@ -80,6 +121,16 @@ module _ {p : ℕ → Bool} {words : List ℕ} where
   all-one {k} e = record { ahead = omega arith; each = λ i l h. (let z : i ≡ k = omega arith in ap (λ (n : ℕ). p (getD words n 0)) z ∙ e) }
 
 -- of a part of the bytes, said of the words of all
+all-part : {p : ℕ → Bool} (bytes : List ℕ) {from size n : ℕ} (j : ℕ) → from ≡ 4 * j → from + size ≤ length bytes → 4 * n ≤ size
+    → ((i : ℕ) → i < n → p (getD (wordsOfBytes (take size (drop from bytes))) i 0) ≡ true) → All p (wordsOfBytes bytes) j (j + n)
+all-part {p} bytes j w l h f =
+    record {
+      ahead = omega arith;
+      each = λ i a b.
+          (let z : j + (i - j) ≡ i = omega arith in
+          ap (λ (m : ℕ). p (getD (wordsOfBytes bytes) m 0)) (sym z) ∙ ap p (sym (word-part bytes j w l (i - j) (omega arith))) ∙ f (i - j) (omega arith));
+    }
+
 pub record Counted (p : ℕ → Bool) (bytes : List ℕ) (j size n : ℕ) : Type 0 where
   pub within : 4 * n ≤ size
   pub all : All p (wordsOfBytes bytes) j (j + n)
@@ -90,7 +141,10 @@ counted {p} bytes {from} {size} {n} j w l e =
     let part = take size (drop from bytes) in
     let r : Leads p (wordsOfBytes part) n = rw e (leads p (wordsOfBytes part)) in
     let h : 4 * n ≤ size = omega (arith, r .within, words-count part, part-length bytes {size = size} j w l) in
-    record {
-      within = h;
-      all = record { ahead = omega arith; each = λ i f g. (let z : j + (i - j) ≡ i = omega arith in ap (λ (m : ℕ). p (getD (wordsOfBytes bytes) m 0)) (sym z) ∙ ap p (sym (word-part bytes j w l (i - j) (omega arith))) ∙ r .each (i - j) (omega arith)) };
-    }
+    record { within = h; all = all-part bytes j w l h (r .each) }
+
+pub all-passed : {p : ℕ → Bool} (bytes : List ℕ) {from size : ℕ} (j n : ℕ) → every p (wordsOfBytes (take size (drop from bytes))) ≡ true
+    → from ≡ 4 * j → from + size ≤ length bytes → 4 * n ≤ size → All p (wordsOfBytes bytes) j (j + n)
+all-passed {p} bytes {from} {size} j n e w l h =
+    let part = take size (drop from bytes) in
+    all-part bytes j w l h (λ i g. every-each p (wordsOfBytes part) e i (omega (arith, words-count part, part-length bytes {size = size} j w l)))

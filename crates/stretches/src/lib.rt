@@ -5,13 +5,15 @@ ghost use Prim.Native.Nat.{_+_, _*_, _≤_};
 ghost use lib.ListN.{length, getD};
 ghost use Rattle.fields.specs.Bytes.{wordsOfBytes};
 ghost use Rattle.raw.specs.Plain.{plain};
-ghost use Rattle.stretches.specs.Stretches.{turnedAt, single, measure, leading};
+ghost use Rattle.stretches.specs.Stretches.{turnedAt, single, measure, leading, every};
 
 mod measured;
 mod plain;
 
-// So many words are tested at once.
+// So many words are tested at once; of a long row so many.
 const CHUNK: usize = 8;
+
+const LONG: usize = 32;
 
 // The flag of the second sample, bit 13, where the last two bytes are joined lowest first.
 const FLAG: u32 = 32;
@@ -55,25 +57,32 @@ pub fn is_single(bytes: &[u8]) -> bool
     (fields::take(word, 5, 3) == 0) & (fields::take(word, 16, 16) == FLAG)
 }
 
-// How many plain pairs come first: by chunks, and then one by one.
-pub fn plain_count(bytes: &[u8]) -> usize
-    ensures { λ r. ⌜ r ≡ leading plain (wordsOfBytes (now (bytes .entry))) ⌝ }
+// Whether all words are plain pairs: by chunks as large as there are words for.
+pub fn all_plain(bytes: &[u8]) -> bool
+    ensures { λ r. ⌜ r ≡ every plain (wordsOfBytes (now (bytes .entry))) ⌝ }
 {
-    plain::plain_rest(bytes, plain::plain_chunks(bytes, 0))
+    let n = bytes.len() / 4;
+    if n < CHUNK {
+        return plain::chunks_plain(bytes, 1);
+    }
+    if n < LONG {
+        return plain::chunks_plain(bytes, CHUNK);
+    }
+    plain::chunks_plain(bytes, LONG)
 }
 
-// The same, faster where they are few: those of the first chunk one by one.
+// How many plain pairs come first. Most often they are few: those of the first chunk are asked one by one.
 pub fn few_plain(bytes: &[u8]) -> usize
     ensures { λ r. ⌜ r ≡ leading plain (wordsOfBytes (now (bytes .entry))) ⌝ }
 {
     if bytes.len() / 4 < CHUNK {
         return plain::plain_rest(bytes, 0);
     }
-    let n = plain::first_plain(bytes);
-    if n < CHUNK {
-        return n;
+    let first = plain::first_plain(bytes);
+    if first < CHUNK {
+        return first;
     }
-    plain::plain_rest(bytes, plain::plain_chunks(bytes, n))
+    plain::plain_rest(bytes, plain::plain_chunks(bytes, first))
 }
 
 // How many measures come first. Most other words are known by the first test.

@@ -632,8 +632,8 @@ word-at-unique κs a r s u v p q = by-equation p q
 pub is-single-unique : Unique stretches.is_single.ended stretches.is_single.Reads.Learnt
 is-single-unique κs a r s u v p q = by-equation p q
 
-pub plain-count-unique : Unique stretches.plain_count.ended stretches.plain_count.Reads.Learnt
-plain-count-unique κs a r s u v p q = by-equation p q
+pub all-plain-unique : Unique stretches.all_plain.ended stretches.all_plain.Reads.Learnt
+all-plain-unique κs a r s u v p q = by-equation p q
 
 pub few-plain-unique : Unique stretches.few_plain.ended stretches.few_plain.Reads.Learnt
 few-plain-unique κs a r s u v p q = by-equation p q

@@ -1,11 +1,15 @@
 -- `runs::sets::window_end` meets its contract.
 use Prim.Native.Nat.{_+_, _-_, _*_, _/_}
-use mathlib.Core.Path.{refl, sym, _∙_}
+use mathlib.Core.Path.{_≡_, refl, sym, _∙_}
+use mathlib.Core.Bool.{true}
 use native.Mathlib.Omega.{arith}
 use borrow.Author.Needs.{needs}
+use borrow.Author.Tests.{not-false}
+use Rattle.fields.specs.Bytes.{wordsOfBytes}
 use Rattle.raw.specs.Plain.{plain}
 use Rattle.stretches.specs.WordsLaws.{words-count}
-use Rattle.stretches.specs.StretchesLaws.{Counted, counted}
+use Rattle.stretches.specs.Stretches.{All}
+use Rattle.stretches.specs.StretchesLaws.{all-passed}
 use Rattle.runs.specs.RunsLaws.{passed-none, window-run}
 use Rattle.runs.proofs.sets.window_end.Statement.{statement}
 use Rattle.runs.proofs.sets.window_end.Tie as tie
@@ -22,27 +26,30 @@ returns-3 c = (omega arith, passed-none _ _)
 returns-4 : tie.Need-returns-4
 returns-4 c = (omega arith, passed-none _ _)
 
--- what was counted
-pairs : (c : tie.After-plain-count) →
+-- what is so of them all
+pairs : (c : tie.After-all-plain) → c .all-plain .result ≡ true →
     let a = c .before .before .before .before .before .before .args in
-    Counted plain (a .bytes .now) (a .k + 1) (4 * (a .k + 1 + a .width / 2) - 4 * (a .k + 1)) (c .plain-count .result)
-pairs c = let a = c .before .before .before .before .before .before .args in counted (a .bytes .now) (a .k + 1) refl (omega arith) (c .plain-count .ensures)
+    All plain (wordsOfBytes (a .bytes .now)) (a .k + 1) (a .k + 1 + a .width / 2)
+pairs c e =
+    let a = c .before .before .before .before .before .before .args in
+    all-passed (a .bytes .now) {size = 4 * (a .k + 1 + a .width / 2) - 4 * (a .k + 1)} (a .k + 1) (a .width / 2) (sym (c .all-plain .ensures) ∙ e) refl (omega arith) (omega arith)
 
 returns-5 : tie.Need-returns-5
 returns-5 c =
-    let start = c .before .before .before .before .before .before .before .before in
-    let n = pairs (c .before .before) in (
+    let start = c .before .before .before .before .before .before .before .before in (
       omega arith,
-      window-run (start .args .width) (start .pre .1 .0) (start .pre .1 .1) (omega arith) (omega arith) (n .all) (omega (arith, n .within)) (λ h. absurd (omega arith))
+      window-run (start .args .width) (start .pre .1 .0) (start .pre .1 .1) (omega arith) (omega arith)
+          (pairs (c .before .before) (not-false _ (c .before .if4 .left)))
+          (λ h. absurd (omega arith))
           (omega (arith, words-count (start .args .bytes .now))),
     )
 
 returns-6 : tie.Need-returns-6
 returns-6 c =
-    let start = c .before .before .before .before .before .before .before .before .before .before in
-    let n = pairs (c .before .before .before .before) in (
+    let start = c .before .before .before .before .before .before .before .before .before .before in (
       omega arith,
-      window-run (start .args .width) (start .pre .1 .0) (start .pre .1 .1) (omega arith) (omega arith) (n .all) (omega (arith, n .within))
+      window-run (start .args .width) (start .pre .1 .0) (start .pre .1 .1) (omega arith) (omega arith)
+          (pairs (c .before .before .before .before) (not-false _ (c .before .before .before .if4 .left)))
           (λ h. sym (c .before .single-at .ensures) ∙ c .if6 .taken)
           (omega (arith, words-count (start .args .bytes .now))),
     )
