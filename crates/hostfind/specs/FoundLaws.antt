@@ -4,7 +4,8 @@ use mathlib.Core.Path.{_≡_, refl, sym, ap, ap₂, _∙_}
 use mathlib.Core.Bool.{Bool, true, false, cond}
 use mathlib.Core.List.{List, [], _∷_, _++_, append-assoc}
 use native.Mathlib.Omega.{arith}
-use borrow.Author.Tests.{eqb-true, lt-ltb, le-ltb}
+use native.Mathlib.Decide.{decLe}
+use borrow.Author.Tests.{eqb-true, lt-ltb, le-ltb, lt-leb}
 use lib.Dec.{eqb, ltb}
 use lib.ListN.{length, getD, replicate, length-append}
 use Rattle.limits.specs.Limits.{mostSamples}
@@ -161,3 +162,16 @@ module _ (m : List ℕ) (c : ℕ) (w out : List ℕ) {s : Settings} {a : FindAns
         number = rw (le-ltb _ _ k) (g ∙ sym (first-number 0 ∙ none-later (numberOf (a .refusal))));
         numbers = rw (le-ltb _ _ k, g) (e ∙ ap (splice out 0) told);
       }
+
+-- numbers that are no settings: no pulses, where they have room
+pub find-none : (m : List ℕ) (c : ℕ) (w out : List ℕ) {r : ℕ} {out′ : List ℕ} → isSettings m ≡ false → out′ ≡ pasted out 0 (replicate foundCount 0) → r ≡ numberOf R.Setting
+    → FindFace m c w out r out′
+find-none m c w out e f g =
+    record {
+      number = rw e g;
+      numbers = rw g
+          (elim (decLe foundCount (length out)) [
+            | yes h ↦ rw (le-ltb _ _ h) (f ∙ pasted-fits out 0 (replicate foundCount 0) h)
+            | no h ↦ rw (lt-ltb (length out) foundCount (omega arith)) (f ∙ rw (lt-leb foundCount (length out) (omega arith)))
+          ]);
+    }

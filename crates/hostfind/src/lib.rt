@@ -8,6 +8,8 @@ ghost use Rattle.hostfind.specs.Inner.{Small, AllSmall};
 use finder::Pulse;
 use finder::Pulses;
 use numbers::load::settings_or_none;
+use places::is_settings;
+use refusals::Refusal;
 
 // How many numbers a pulse has, where those of each place stand, behind the count, and how many are written.
 const PULSE: usize = 9;
@@ -77,6 +79,12 @@ pub extern "C" fn fadc250_find(
 ) -> u32
     ensures { λ r. ⌜ FindFace (now (settings .entry)) channel (now (window .entry)) (now (out .entry)) r (now (out .exit)) ⌝ }
 {
+    // Asked before they are loaded, which asks again: the compiler then keeps no number for both ways, and asks once.
+    if !is_settings(settings) {
+        let zeros = [0u32; FOUND];
+        copies::put32(out, 0, &zeros);
+        return refusals::number(Refusal::Setting);
+    }
     let loaded = settings_or_none(settings);
     let answer = find::find(loaded, channel as usize, window);
     let refusal = answer.refusal;
