@@ -1,4 +1,4 @@
-// Words of bytes that are known by their bits alone: how many of a kind stand in a row from the first on. Many are tested at once.
+// Words of bytes that are known by their bits alone: whether all are of a kind, how many of it come first. Many are tested at once.
 // Each function looks at all the bytes it is lent: who wants a part of them lends that part, and nothing is tested for it.
 ghost use mathlib.Core.Path.{_≡_};
 ghost use Prim.Native.Nat.{_+_, _*_, _≤_};

@@ -1,6 +1,6 @@
 -- `stretches::plain::chunks_plain` meets its contract. The invariant: so are the words so far.
 use Prim.Native.Nat.{_-_}
-use mathlib.Core.Path.{sym, _∙_}
+use mathlib.Core.Path.{sym}
 use native.Mathlib.Omega.{arith}
 use borrow.Author.Needs.{needs}
 use borrow.Author.Tests.{not-true, not-false}
