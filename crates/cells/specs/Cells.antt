@@ -2,15 +2,10 @@
 -- nothing.
 use Prim.Native.Nat.{ℕ, _+_, _*_, _^_}
 use mathlib.Core.List.{List, [], _∷_}
-use lib.ListN.{replicate}
 use Rattle.records.specs.declared.answer.Record.{Record}
 use Rattle.records.specs.declared.answer.Record.the-variants as R
 
--- how many numbers a record is: its kind, then its fields, each kind's at places of their own, the others 0
-abbrev pub recordCount : ℕ
-recordCount = 6
-
--- the kinds; 0 stands for none, where a call was refused, and 16 for the block's end
+-- the kinds; those that stand for no record are in `ends`
 abbrev pub kindOf : Record → ℕ
 kindOf (R.Block r) = 1
 kindOf (R.Parameters r) = 2
@@ -27,9 +22,6 @@ kindOf (R.Pedestal r) = 12
 kindOf (R.Trailer r) = 13
 kindOf (R.Fillers slot n) = 14
 kindOf (R.Empty r) = 15
-
-abbrev pub endKind : ℕ
-endKind = 16
 
 -- the five numbers behind the kind
 abbrev pub fieldNumbers : Record → List ℕ
@@ -52,11 +44,3 @@ fieldNumbers (R.Empty r) = r .slot ∷ 0 ∷ 0 ∷ 0 ∷ 0 ∷ []
 
 abbrev pub recordNumbers : Record → List ℕ
 recordNumbers x = kindOf x ∷ fieldNumbers x
-
--- at the block's end
-abbrev pub endNumbers : List ℕ
-endNumbers = endKind ∷ replicate 5 0
-
--- for a refused call
-abbrev pub noNumbers : List ℕ
-noNumbers = replicate recordCount 0

@@ -1,6 +1,7 @@
 // A record of a block, as numbers for C: its kind, then its fields.
 ghost use mathlib.Core.Path.{_≡_};
-ghost use Rattle.cells.specs.Cells.{endNumbers, noNumbers, recordNumbers};
+ghost use Rattle.cells.specs.Cells.{recordNumbers};
+use ends::RECORD;
 use framing::block_header::BlockHeader;
 use framing::empty::ModuleEmpty;
 use framing::event_header::EventHeader;
@@ -17,15 +18,10 @@ use raw::window::WindowRaw;
 use rawitems::Pairs;
 use records::answer::Record;
 
-// How many numbers a record is.
-pub const RECORD: usize = 6;
-
 // A second time word's bits begin at bit 24 of the time.
 const BIT_24: u64 = 16777216;
 
-// The kinds of record; 0 stands for none.
-const NONE: u64 = 0;
-
+// The kinds of record; of those that stand for none see `ends`.
 const BLOCK: u64 = 1;
 
 const PARAMETERS: u64 = 2;
@@ -55,22 +51,6 @@ const TRAILER: u64 = 13;
 const FILLERS: u64 = 14;
 
 const EMPTY: u64 = 15;
-
-const END: u64 = 16;
-
-// No record: the call was refused.
-pub fn no_numbers() -> [u64; RECORD]
-    ensures { λ r. ⌜ r ≡ noNumbers ⌝ }
-{
-    [NONE, 0, 0, 0, 0, 0]
-}
-
-// No record: the block has ended.
-pub fn end_numbers() -> [u64; RECORD]
-    ensures { λ r. ⌜ r ≡ endNumbers ⌝ }
-{
-    [END, 0, 0, 0, 0, 0]
-}
 
 fn block_numbers(r: BlockHeader) -> [u64; RECORD]
     ensures { λ n. ⌜ n ≡ recordNumbers (Record.Block r) ⌝ }

@@ -16,7 +16,8 @@ use Rattle.records.specs.Next.{Made}
 use Rattle.records.specs.Answers.{NextSays}
 use Rattle.bytecheck.specs.Check.{numberOfOut}
 use Rattle.cursors.specs.Cursors.{scanCount, cursorOf}
-use Rattle.cells.specs.Cells.{recordCount, endKind, recordNumbers}
+use Rattle.ends.specs.Ends.{recordCount, endKind}
+use Rattle.cells.specs.Cells.{recordNumbers}
 use Rattle.cells.specs.CellsLaws.{TimeSound}
 use Rattle.reading.specs.Reading.{roomFor, toldBy, recordOf, recordStored, NextFace}
 

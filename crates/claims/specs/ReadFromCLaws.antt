@@ -23,7 +23,8 @@ use Rattle.records.specs.AnswersLaws.{next-answers}
 use Rattle.bytecheck.specs.Check.{numberOfOut, checkNumber}
 use Rattle.cursors.specs.Cursors.{cursorOf}
 use Rattle.cursors.specs.CursorsLaws.{scan-over, scan-back, scan-is, start-zeros}
-use Rattle.cells.specs.Cells.{recordCount, kindOf, endKind, fieldNumbers, recordNumbers, endNumbers, noNumbers}
+use Rattle.ends.specs.Ends.{recordCount, endKind, endNumbers, noNumbers}
+use Rattle.cells.specs.Cells.{kindOf, fieldNumbers, recordNumbers}
 use Rattle.cells.specs.SoundLaws.{took-sound}
 use Rattle.reading.specs.Reading.{badAnswer, roomFor, toldBy, scanLeft, recordOf, recordStored, NextFace}
 use Rattle.layout.specs.NothingLost.{AllWords}

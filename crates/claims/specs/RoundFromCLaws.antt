@@ -7,7 +7,7 @@ use Rattle.items.specs.declared.Item.{Item}
 use Rattle.reader.specs.Reader.{Out, Whole, Broken, Reading}
 use Rattle.block.specs.Block.{endItems}
 use Rattle.numbers.specs.Numbers.{stateFrom}
-use Rattle.cells.specs.Cells.{endKind}
+use Rattle.ends.specs.Ends.{endKind}
 use Rattle.reading.specs.Reading.{NextFace}
 use Rattle.host.specs.Face.{FinishFace}
 use Rattle.claims.specs.FromC.{CRun}

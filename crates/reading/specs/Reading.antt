@@ -11,7 +11,8 @@ use Rattle.records.specs.declared.answer.Next.{Next}
 use Rattle.records.specs.declared.answer.Next.the-variants as N
 use Rattle.records.specs.Next.{nextAt}
 use Rattle.cursors.specs.Cursors.{isScan, scanFrom, scanStored}
-use Rattle.cells.specs.Cells.{recordCount, recordNumbers, endNumbers, noNumbers}
+use Rattle.ends.specs.Ends.{recordCount, endNumbers, noNumbers}
+use Rattle.cells.specs.Cells.{recordNumbers}
 
 -- an array is not as the header says
 abbrev pub badAnswer : ℕ

@@ -15,7 +15,8 @@ use Rattle.records.specs.declared.answer.Next.the-variants as N
 use Rattle.records.specs.Next.{nextAt}
 use Rattle.scan.specs.declared.Scan.{Scan}
 use Rattle.cursors.specs.Cursors.{isScan, scanFrom, scanStored}
-use Rattle.cells.specs.Cells.{recordCount, recordNumbers, noNumbers}
+use Rattle.ends.specs.Ends.{recordCount, noNumbers}
+use Rattle.cells.specs.Cells.{recordNumbers}
 use Rattle.reading.specs.Reading.{badAnswer, roomFor, recordStored, NextFace}
 use Rattle.reading.specs.Inner.{Told}
 

@@ -1,6 +1,6 @@
 // Reads a block from C, record by record: the scan's numbers are loaded, and an accepted call stores them and fills in the record's.
 ghost use mathlib.Core.Path.{_≡_};
-ghost use Rattle.cells.specs.Cells.{noNumbers};
+ghost use Rattle.ends.specs.Ends.{noNumbers};
 ghost use Rattle.reading.specs.Reading.{roomFor, toldBy, recordOf, recordStored, NextFace};
 ghost use Rattle.reading.specs.Inner.{Told};
 use records::answer::Next;
@@ -14,7 +14,7 @@ const BAD_ANSWER: u64 = refusals::BAD_ARRAY as u64 * 4294967296;
 fn clear(out: &mut [u64])
     ensures { λ _. ⌜ now (out .exit) ≡ recordStored (now (out .entry)) noNumbers ⌝ }
 {
-    let none = cells::no_numbers();
+    let none = ends::no_numbers();
     copies::put64(out, 0, &none);
 }
 
@@ -22,7 +22,7 @@ fn clear(out: &mut [u64])
 fn took(numbers: &mut [u32], out: &mut [u64], x: Record, after: Scan) -> u64
     ensures { λ r. ⌜ Told (now (numbers .entry)) (now (out .entry)) (Next.Took x after) r (now (numbers .exit)) (now (out .exit)) ⌝ }
 {
-    if out.len() < cells::RECORD {
+    if out.len() < ends::RECORD {
         return BAD_ANSWER;
     }
     let new = cells::record_numbers(x);
@@ -35,10 +35,10 @@ fn took(numbers: &mut [u32], out: &mut [u64], x: Record, after: Scan) -> u64
 fn ended(out: &mut [u64], words: u32) -> u64
     ensures { λ r. ⌜ (r ≡ toldBy (Next.End words) (roomFor (now (out .entry)))) × (now (out .exit) ≡ recordStored (now (out .entry)) (recordOf (Next.End words))) ⌝ }
 {
-    if out.len() < cells::RECORD {
+    if out.len() < ends::RECORD {
         return BAD_ANSWER;
     }
-    let end = cells::end_numbers();
+    let end = ends::end_numbers();
     copies::put64(out, 0, &end);
     words as u64
 }

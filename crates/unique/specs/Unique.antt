@@ -80,6 +80,7 @@ use Rattle.listing.proofs as listing
 use Rattle.listing.specs.RoomLaws.{one-listing, one-length}
 use Rattle.cursors.proofs as cursors
 use Rattle.cells.proofs as cells
+use Rattle.ends.proofs as ends
 use Rattle.reading.proofs as reading
 use Rattle.reading.specs.ReadingLaws.{next-face-unique}
 
@@ -811,13 +812,14 @@ scan-from-unique κs a r s u v p q = by-equation p q
 pub put-scan-unique : Unique cursors.put_scan.ended cursors.put_scan.Reads.Learnt
 put-scan-unique κs a r s u v p q = (refl, λ i. (one-result p q i, u .1))
 
--- cells
-pub no-numbers-unique : Unique cells.no_numbers.ended cells.no_numbers.Reads.Learnt
+-- ends
+pub no-numbers-unique : Unique ends.no_numbers.ended ends.no_numbers.Reads.Learnt
 no-numbers-unique κs a r s u v p q = by-equation p q
 
-pub end-numbers-unique : Unique cells.end_numbers.ended cells.end_numbers.Reads.Learnt
+pub end-numbers-unique : Unique ends.end_numbers.ended ends.end_numbers.Reads.Learnt
 end-numbers-unique κs a r s u v p q = by-equation p q
 
+-- cells
 pub record-numbers-unique : Unique cells.record_numbers.ended cells.record_numbers.Reads.Learnt
 record-numbers-unique κs a r s u v p q = by-equation p q
 
