@@ -3,12 +3,10 @@ ghost use mathlib.Core.Path.{_≡_};
 ghost use Rattle.refusals.specs.Refusal.{numberOf};
 ghost use Rattle.counting.specs.Counting.{countNumber, latchNumber, CountSays, LatchSays, ResetSays};
 use refusals::Refusal;
+use scalers::FRAME;
 use state::State;
 use state::ranges::state_ok;
 use writer::Answer;
-
-// The samples of a frame.
-const FRAME: usize = 16;
 
 fn count_check(s: State, samples: &[u16]) -> Refusal
     ensures { λ r. ⌜ numberOf r ≡ countNumber s (now (samples .entry)) ⌝ }

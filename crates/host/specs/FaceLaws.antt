@@ -1,5 +1,5 @@
 -- The numbers that a call leaves are those of the state that it gives. Assumes nothing.
-use Prim.Native.Nat.{ℕ, _+_, _*_, _^_}
+use Prim.Native.Nat.{ℕ, _+_, _*_, _^_, _≤_}
 use mathlib.Core.Path.{_≡_, refl, sym, ap, _∙_}
 use mathlib.Core.Bool.{Bool, true, false, cond}
 use mathlib.Core.List.{List, _++_}
@@ -29,7 +29,7 @@ use Rattle.refusing.specs.Tables.{setUpNumber, openBlockTable, openBlockNumber,
 use Rattle.refusing.specs.TablesLaws.{post-accepted}
 use Rattle.block.specs.Block.{blockItems, endItems}
 use Rattle.writer.specs.CallsLaws.{done}
-use Rattle.places.specs.Places.{marksAt, triggersAt, stateCount, isSettings}
+use Rattle.places.specs.Places.{marksAt, frontCount, stateCount, isSettings, isState}
 use Rattle.numbers.specs.Numbers.{settingsFrom, stateFrom, settingsOrNone, stateOrNone, headOf, scalerNumbers, numbersOf, headStored, stateStored}
 use Rattle.numbers.specs.On.{onSettings}
 use Rattle.numbers.specs.OnLaws.{none-out, settings-number, settings-accepted}
@@ -37,7 +37,7 @@ use Rattle.places.specs.PlacesLaws.{settings-count, state-count, front-held}
 use Rattle.numbers.specs.CallLaws.{call-number, call-lent, call-numbers, call-accepted, call-placed}
 use Rattle.numbers.specs.BackLaws.{settings-back, event-stored, mark-stored}
 use Rattle.host.specs.Face.{blockOpened, posted, eventClosed, finishOn, inHigh, SetUpFace, OpenBlockFace, OpenEventFace, PostFace, CloseFace, FinishFace}
-use Rattle.host.specs.Inner.{Kept, EventFits, eventPlaced, MarkFits, markPlaced}
+use Rattle.host.specs.Inner.{Kept, eventPlaced, MarkFits, markPlaced}
 
 -- the numbers of an answer, told by the number that C gets
 told : {n : List ℕ} {number : ℕ} {s : State} {r : ℕ} {n′ : List ℕ} → Kept n number s r n′ → n′ ≡ ifAccepted r (headStored n s) n
@@ -111,19 +111,21 @@ event-out : (event time : ℕ) → openEventNumber blank event time ≡ numberOf
 unfolding openEventNumber openEventTable firstOf
 event-out event time = rw blank-out
 
-pub event-room : (n : List ℕ) (event time : ℕ) {s : State} {a : Answer} → s ≡ stateOrNone n → OpenEventSays s event time a → numberOf (a .refusal) ≡ 0 → EventFits n
-event-room n event time f d e =
-    let state = call-accepted n (λ x. openEventNumber x event time) (event-out event time) f (d .refusal) e in
-    record { long = omega (arith, state-count n state); small = omega (arith, front-held n state triggersAt (omega arith)) }
+pub event-room : (n : List ℕ) (event time : ℕ) {s : State} {a : Answer} → s ≡ stateOrNone n → OpenEventSays s event time a → numberOf (a .refusal) ≡ 0 → frontCount ≤ length n
+event-room n event time f d e = omega (arith, state-count n (call-accepted n (λ x. openEventNumber x event time) (event-out event time) f (d .refusal) e))
 
 pub open-event-face : (n : List ℕ) (event time : ℕ) {s : State} {a : Answer} {r : ℕ} {n′ : List ℕ} → s ≡ stateOrNone n
-    → OpenEventSays s event time a → r ≡ numberOf (a .refusal) → n′ ≡ ifAccepted r (eventPlaced n event time) n → OpenEventFace n event time r n′
-open-event-face n event time f d h k =
+    → OpenEventSays s event time a → r ≡ numberOf (a .refusal) → n′ ≡ ifAccepted r (eventPlaced n event time (a .state .scalers .triggers)) n → OpenEventFace n event time r n′
+open-event-face n event time {s} {a} f d h k =
     let number : State → ℕ = λ x. openEventNumber x event time in
+    let new : State → State = λ x. withEvent x event time in
     let g = h ∙ d .refusal in
+    let same : isState n ≡ true → s ≡ stateFrom n = λ e. f ∙ ap (λ (b : Bool). cond b (stateFrom n) blank) e in
+    let opened : isState n ≡ true → number (stateFrom n) ≡ 0 → new (stateFrom n) ≡ a .state =
+    λ e o. ap new (sym (same e)) ∙ sym (d .state ∙ done (new s) s (ap number (same e) ∙ o)) in
     record {
       number = call-number n number (event-out event time) f g;
-      numbers = call-placed n number (event-out event time) f g (λ (x : State). withEvent x event time) (eventPlaced n event time) (λ e o. event-stored n event time e) k;
+      numbers = call-placed n number (event-out event time) f g new (eventPlaced n event time (a .state .scalers .triggers)) (λ e o. event-stored n event time e ∙ ap (λ (x : State). eventPlaced n event time (x .scalers .triggers)) (opened e o)) k;
     }
 
 -- ---- post a channel

@@ -1,5 +1,5 @@
 -- What the inner functions ask and leave. Assumes nothing.
-use Prim.Native.Nat.{ℕ, _+_, _%_, _^_, _<_, _≤_}
+use Prim.Native.Nat.{ℕ, _+_, _^_, _<_, _≤_}
 use mathlib.Core.Path.{_≡_}
 use mathlib.Core.List.{List}
 use lib.ListN.{length, getD, set}
@@ -14,14 +14,9 @@ pub record Kept (n : List ℕ) (number : ℕ) (s : State) (r : ℕ) (n′ : List
   pub answer : r ≡ number
   pub left : n′ ≡ ifAccepted number (headStored n s) n
 
--- the numbers n have room for one trigger more
-pub record EventFits (n : List ℕ) : Type 0 where
-  pub long : frontCount ≤ length n
-  pub small : getD n triggersAt 0 < 4294967296
-
--- the event's numbers stand among the numbers n, and one trigger more is counted
-abbrev pub eventPlaced : List ℕ → ℕ → ℕ → List ℕ
-eventPlaced n event time = set (set (set (set n phaseAt (phaseNumber Event)) eventAt event) triggerTimeAt time) triggersAt ((getD n triggersAt 0 + 1) % 2 ^ 32)
+-- the event's numbers and the triggers counted stand among the numbers n
+abbrev pub eventPlaced : List ℕ → ℕ → ℕ → ℕ → List ℕ
+eventPlaced n event time triggers = set (set (set (set n phaseAt (phaseNumber Event)) eventAt event) triggerTimeAt time) triggersAt triggers
 
 -- the marks among the numbers n have room for the channel's bit
 pub record MarkFits (n : List ℕ) (c : ℕ) : Type 0 where

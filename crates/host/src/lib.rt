@@ -5,8 +5,9 @@ ghost use Prim.Native.Nat.{_≤_};
 ghost use lib.ListN.{length};
 ghost use mathlib.Core.Bool.{true, false};
 ghost use Rattle.refusals.specs.Refusal.{numberOf};
+ghost use Rattle.places.specs.Places.{frontCount};
 ghost use Rattle.host.specs.Face.{SetUpFace, OpenBlockFace, OpenEventFace, PostFace, CloseFace, FinishFace, inHigh};
-ghost use Rattle.host.specs.Inner.{Kept, EventFits, eventPlaced, MarkFits, markPlaced};
+ghost use Rattle.host.specs.Inner.{Kept, eventPlaced, MarkFits, markPlaced};
 use numbers::load::settings_or_none;
 use numbers::load::state_or_none;
 use numbers::store::phase_number;
@@ -72,15 +73,15 @@ pub extern "C" fn fadc250_open_block(
     put_answer(state, answer)
 }
 
-// What an accepted opening changes of a state's numbers: the phase, the event's number and its time, and one trigger more.
-fn place_event(numbers: &mut [u64], number: u32, time: u64)
-    requires { ⌜ EventFits (now numbers) ⌝ }
-    ensures { λ _. ⌜ now (numbers .exit) ≡ eventPlaced (now (numbers .entry)) number time ⌝ }
+// What an accepted opening changes of a state's numbers: the phase, the event's number and its time, and the triggers.
+fn place_event(numbers: &mut [u64], number: u32, time: u64, triggers: u32)
+    requires { ⌜ frontCount ≤ length (now numbers) ⌝ }
+    ensures { λ _. ⌜ now (numbers .exit) ≡ eventPlaced (now (numbers .entry)) number time triggers ⌝ }
 {
     numbers[places::PHASE] = phase_number(Phase::Event);
     numbers[places::EVENT] = number as u64;
     numbers[places::TIME] = time;
-    numbers[places::TRIGGERS] = (numbers[places::TRIGGERS] + 1) % 4294967296;
+    numbers[places::TRIGGERS] = triggers as u64;
 }
 
 #[no_mangle]
@@ -91,7 +92,9 @@ pub extern "C" fn fadc250_open_event(state: &mut [u64], number: u32, time: u64) 
     let answer = writer::open_event(loaded, number, time);
     let refusal = answer.refusal;
     if refusals::accepted(refusal) {
-        place_event(state, number, time);
+        let opened = answer.state;
+        let counted = opened.scalers;
+        place_event(state, number, time, counted.triggers);
         return 0;
     }
     refusals::number(refusal)

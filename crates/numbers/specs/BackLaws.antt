@@ -79,13 +79,13 @@ set-trigger (suc k) (x ∷ counts) rest settings timer triggers new h =
     rw e (ap (λ (l : List ℕ). x ∷ l) (set-trigger k counts rest settings timer triggers new (omega arith)))
 
 pub event-stored : (n : List ℕ) (event time : ℕ) → isState n ≡ true
-    → numbersOf (withEvent (stateFrom n) event time) ≡ set (set (set (set n phaseAt (phaseNumber Event)) eventAt event) triggerTimeAt time) triggersAt ((getD n triggersAt 0 + 1) % 2 ^ 32)
-unfolding numbersOf headOf withEvent triggered wrapped stateFrom scalersFrom scalerNumbers
+    → numbersOf (withEvent (stateFrom n) event time) ≡ set (set (set (set n phaseAt (phaseNumber Event)) eventAt event) triggerTimeAt time) triggersAt (withEvent (stateFrom n) event time .scalers .triggers)
+unfolding numbersOf headOf withEvent triggered stateFrom scalersFrom scalerNumbers
 event-stored n event time e =
     let s = stateFrom n in
     let c = s .scalers in
     let size : length (c .counts) ≡ 16 = row-size n e countsAt 16 (omega arith) counts-wide in
-    let new = (getD n triggersAt 0 + 1) % 2 ^ 32 in
+    let new = withEvent s event time .scalers .triggers in
     ap (λ (l : List ℕ). phaseNumber Event ∷ s .block ∷ s .events ∷ event ∷ time ∷ marksNumber (s .posted) ∷ s .closed ∷ s .words ∷ l)
     (set-trigger 16 (c .counts) (c .part ∷ marksNumber (c .over) ∷ c .latched) (settingsNumbers (s .settings)) (c .timer) (c .triggers) new size)
     ∙ ap (λ (l : List ℕ). set (set (set (set l phaseAt (phaseNumber Event)) eventAt event) triggerTimeAt time) triggersAt new) (numbers-back n e)

@@ -8,10 +8,8 @@ ghost use lib.ListN.{length, replicate};
 ghost use Rattle.ground.specs.TestsLaws.{Under};
 ghost use Rattle.scalers.specs.Scalers.{oversOf, risesOf, addedTo, framesOf};
 ghost use Rattle.scalers.specs.Inner.{narrowOf, plusOf, seenFrom, overFrom};
+use crate::FRAME;
 use std::num::wrapping_add_u32;
-
-// The samples of a frame.
-pub(crate) const FRAME: usize = 16;
 
 // The samples of 4,096 frames: so many are seen before what they add is added up, which sixteen bits hold.
 pub(crate) const MOST_SEEN: usize = 65536;

@@ -1,7 +1,6 @@
 // What is counted of frames and of events: document 02, "Scaler words". Every count wraps at 2^32.
 ghost use mathlib.Core.Path.{_≡_};
 ghost use Rattle.scalers.specs.Scalers.{nothingCounted, framesOf, countFrames, triggered, latchedNow, resetNow};
-use frames::FRAME;
 use frames::MOST_SEEN;
 use limits::CHANNELS;
 use limits::LATCHED;
@@ -9,8 +8,11 @@ use std::num::wrapping_add_u32;
 
 mod frames;
 
+// The samples of a frame.
+pub const FRAME: usize = 16;
+
 // The frames of a group, which the timer counts.
-const GROUP: usize = 512;
+pub const GROUP: usize = 512;
 
 // As many numbers as a count can be.
 const COUNTS: usize = 4294967296;

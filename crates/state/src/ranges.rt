@@ -9,9 +9,7 @@ use crate::State;
 use framing::block_header::BlockHeader;
 use framing::event_header::EventHeader;
 use framing::trigger_time_high::TriggerTimeHigh;
-
-// A part group has fewer frames than this.
-const GROUP: u32 = 512;
+use scalers::GROUP;
 
 // A block's number and events are within refusal 8's ranges.
 pub fn block_ok(number: u32, events: u32) -> bool
@@ -122,7 +120,7 @@ pub fn common_ok(s: State) -> bool
     let settings = s.settings;
     let scalers = s.scalers;
     let good = settings::in_range(settings);
-    good & (scalers.part < GROUP)
+    good & ((scalers.part as usize) < GROUP)
 }
 
 // The state keeps its ranges.

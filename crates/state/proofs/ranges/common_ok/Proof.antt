@@ -9,4 +9,4 @@ unfolding commonOk scalersOk
 returns c = rw (c .before .in-range .ensures)
 
 pub common-ok-spec : {M : Type 1} → statement M
-common-ok-spec = tie.close (tie.spec (λ c κs. search needs) returns)
+common-ok-spec = tie.close (tie.spec (λ c κs. search needs) (λ c. search needs) returns)
