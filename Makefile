@@ -1,7 +1,7 @@
 # The library for C. `make` proves and builds the archive, an object for each crate that exports calls. `make install`
 # copies it, with the header, a shared object, the pkg-config file and the man page. Where the archive stands, installing
 # needs a C compiler and no rt.
-EXPORTING = host hostfind hostcheck hostread
+EXPORTING = host hostcount hostfind hostcheck hostread
 OBJECTS = $(EXPORTING:=.o)
 SOURCES = crates.txt kit.txt $(shell find crates -name '*.rt' -o -name '*.antt')
 PREFIX = /usr/local

@@ -10,7 +10,7 @@
 #include "../include/fadc250.h"
 #include "peer.h"
 
-enum { MOST_NW = 500, ROOM = 40000, SMALL_BLOCK = 4096, MOST_EVENTS = 255, SLOT = 5 };
+enum { MOST_NW = 500, ROOM = 40000, SMALL_BLOCK = 4096, MOST_EVENTS = 255, SLOT = 5, FRAMES = 4096 };
 
 struct side {
     const char *name;
@@ -19,13 +19,14 @@ struct side {
     uint32_t (*open_event)(uint64_t *, size_t, uint32_t, uint64_t);
     uint32_t (*post)(uint64_t *, size_t, uint16_t *, size_t, uint32_t, const uint16_t *, size_t);
     uint32_t (*close)(uint64_t *, size_t, const uint16_t *, size_t, uint32_t *, size_t);
+    uint32_t (*count)(uint64_t *, size_t, const uint16_t *, size_t);
     uint32_t (*find)(const uint64_t *, size_t, uint32_t, const uint16_t *, size_t, uint32_t *, size_t);
     uint64_t (*check)(const uint8_t *, size_t);
 };
 
 #define SIDE(name, prefix)                                                                                   \
-    {name,          prefix##_set_up, prefix##_open_block, prefix##_open_event,                               \
-     prefix##_post, prefix##_close,  prefix##_find,       prefix##_check}
+    {name,           prefix##_set_up, prefix##_open_block, prefix##_open_event, prefix##_post,               \
+     prefix##_close, prefix##_count,  prefix##_find,       prefix##_check}
 
 static const struct side sides[] = {SIDE("library", fadc250), SIDE("plain", plain), SIDE("sse2", sse2)};
 
@@ -76,6 +77,17 @@ static void fill_sparse(size_t nw, bool busy)
 {
     for (size_t k = 0; k < nw; k++)
         window[k] = (uint16_t)(10 + k % 3 + (busy && k % 100 > 50 && k % 100 < 60 ? 300 : 0));
+}
+
+/* Frames in which no channel is over, or in which each is in about half of them. */
+static void fill_frames(uint16_t *frames, bool busy)
+{
+    uint32_t bits = 1;
+    for (size_t i = 0; i < FRAMES; i++) {
+        bits = bits * 1664525u + 1013904223u;
+        for (size_t c = 0; c < 16; c++)
+            frames[16 * i + c] = (uint16_t)(10 + i % 3 + (busy && (bits >> (16 + c) & 1) != 0 ? 300 : 0));
+    }
 }
 
 static void find(const struct side *side, size_t nw, bool busy)
@@ -161,6 +173,17 @@ static void whole_event(const struct side *side, uint64_t mode, size_t nw, bool 
     for (uint32_t c = 0; c < 16; c++)
         accepted(side->post(state, FADC250_STATE, store, FADC250_STORE(nw), c, window, nw), job);
     accepted(side->close(state, FADC250_STATE, store, FADC250_STORE(nw), words, ROOM), job);
+    done(side, job, 1);
+}
+
+static void count(const struct side *side, const char *job, bool busy)
+{
+    static uint16_t frames[16 * FRAMES];
+    set(7, 100);
+    fill_frames(frames, busy);
+    accepted(fadc250_set_up(settings, FADC250_SETTINGS, state, FADC250_STATE), "set up");
+    forget();
+    accepted(side->count(state, FADC250_STATE, frames, 16 * FRAMES), job);
     done(side, job, 1);
 }
 
@@ -261,6 +284,8 @@ static void all_jobs(const struct side *side)
         post(side, lengths[i]);
     of_every_mode(side, close_event);
     of_every_mode(side, whole_event);
+    count(side, "count_quiet", false);
+    count(side, "count_busy", true);
     checks(side);
 }
 

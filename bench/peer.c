@@ -1,5 +1,5 @@
-/* Rivals for the bench: what a C programmer would write for speed from document 01 and include/fadc250.h, with every
-   refusal asked. Compiled twice: with the inner loops of plain.h as `plain_`, and with -DSSE2 those of sse2.h as
+/* Rivals for the bench: what a C programmer would write for speed from documents 01 and 02 and include/fadc250.h, with
+   every refusal asked. Compiled twice: with the inner loops of plain.h as `plain_`, and with -DSSE2 those of sse2.h as
    `sse2_`. The settings and the state are used where they stand, as the host's numbers. */
 #include "peer.h"
 
@@ -14,8 +14,9 @@
 #endif
 
 enum phase { IDLE = 0, IN_BLOCK = 1, IN_EVENT = 2 };
-enum { CHANNELS = 16, MOST_PULSES = 3, MOST_SUM = 524287, MOST_VMIN = 511, MOST_RAW_PAIRS = 250, MOST_WIDTH = 500 };
+enum { MOST_PULSES = 3, MOST_SUM = 524287, MOST_VMIN = 511, MOST_RAW_PAIRS = 250, MOST_WIDTH = 500 };
 enum { MOST_BLOCK = 1023, MOST_EVENTS = 255, MOST_EVENT = 4194303 };
+enum { GROUP = 512, CHUNK = 32768 };
 
 #define MOST_TIME ((1ull << 48) - 1)
 
@@ -65,9 +66,19 @@ static bool block_ok(const uint64_t *state, const uint64_t *settings)
            words >= 1 + settings[FADC250_PARAMETERS] + (1 + settings[FADC250_TIMES]) * closed;
 }
 
+static bool counts_ok(const uint64_t *state)
+{
+    uint64_t counts = state[FADC250_TIMER] | state[FADC250_TRIGGERS];
+    for (size_t c = 0; c < CHANNELS; c++)
+        counts |= state[FADC250_COUNTS + c];
+    for (size_t i = 0; i < FADC250_SCALERS; i++)
+        counts |= state[FADC250_LATCHED + i];
+    return counts >> 32 == 0 && state[FADC250_PART] < GROUP && state[FADC250_OVER] < 1u << CHANNELS;
+}
+
 static bool state_ok(const uint64_t *state, size_t m)
 {
-    if (m != FADC250_STATE || !settings_ok(state + FADC250_STATE_SETTINGS))
+    if (m != FADC250_STATE || !settings_ok(state + FADC250_STATE_SETTINGS) || !counts_ok(state))
         return false;
     switch (state[FADC250_PHASE]) {
     case IDLE:
@@ -291,6 +302,15 @@ static uint32_t *put_event(const uint64_t *state, const uint16_t *store, uint32_
     return to;
 }
 
+/* What an event ends with on request. */
+static uint32_t *put_scalers(const uint64_t *state, uint32_t *to)
+{
+    *to++ = defining(SCALERS, FADC250_SCALERS);
+    for (size_t i = 0; i < FADC250_SCALERS; i++)
+        *to++ = (uint32_t)state[FADC250_LATCHED + i];
+    return to;
+}
+
 /* ---- How many words an event has. Asked only where the longest there can be would not fit. */
 
 static size_t raw_length(const uint64_t *settings, size_t start)
@@ -373,6 +393,7 @@ uint32_t CALL(open_event)(uint64_t *state, size_t m, uint32_t number, uint64_t t
     state[FADC250_PHASE] = IN_EVENT;
     state[FADC250_EVENT] = number;
     state[FADC250_TIME] = time;
+    state[FADC250_TRIGGERS] = (uint32_t)(state[FADC250_TRIGGERS] + 1);
     return FADC250_ACCEPTED;
 }
 
@@ -412,13 +433,15 @@ static bool rows_ok(uint64_t marks, const uint16_t *store, size_t nw)
     return true;
 }
 
-static bool event_fits(const uint64_t *state, const uint16_t *store, size_t w)
+/* With so many words behind the channels'. */
+static bool event_fits(const uint64_t *state, const uint16_t *store, size_t w, size_t more)
 {
     const uint64_t words = state[FADC250_WORDS];
-    return w >= words && (w - words >= FADC250_EVENT_WORDS || w - words >= event_length(state, store));
+    return w >= words && (w - words >= FADC250_EVENT_WORDS || w - words >= event_length(state, store) + more);
 }
 
-uint32_t CALL(close)(uint64_t *state, size_t m, const uint16_t *store, size_t s, uint32_t *words, size_t w)
+static inline uint32_t close_event(uint64_t *state, size_t m, const uint16_t *store, size_t s, uint32_t *words,
+                                   size_t w, bool scalers)
 {
     if (!state_ok(state, m))
         return FADC250_BAD_STATE;
@@ -429,15 +452,29 @@ uint32_t CALL(close)(uint64_t *state, size_t m, const uint16_t *store, size_t s,
         return FADC250_SHORT_STORE;
     if (!rows_ok(state[FADC250_MARKS], store, nw))
         return FADC250_BAD_SAMPLE;
-    if (!event_fits(state, store, w))
+    if (!event_fits(state, store, w, scalers ? 1 + FADC250_SCALERS : 0))
         return FADC250_SHORT_WORDS;
-    state[FADC250_WORDS] = (uint64_t)(put_event(state, store, words + state[FADC250_WORDS]) - words);
+    uint32_t *end = put_event(state, store, words + state[FADC250_WORDS]);
+    if (scalers)
+        end = put_scalers(state, end);
+    state[FADC250_WORDS] = (uint64_t)(end - words);
     state[FADC250_PHASE] = IN_BLOCK;
     state[FADC250_EVENT] = 0;
     state[FADC250_TIME] = 0;
     state[FADC250_MARKS] = 0;
     state[FADC250_CLOSED]++;
     return FADC250_ACCEPTED;
+}
+
+uint32_t CALL(close)(uint64_t *state, size_t m, const uint16_t *store, size_t s, uint32_t *words, size_t w)
+{
+    return close_event(state, m, store, s, words, w, false);
+}
+
+uint32_t CALL(close_with_scalers)(uint64_t *state, size_t m, const uint16_t *store, size_t s, uint32_t *words,
+                                  size_t w)
+{
+    return close_event(state, m, store, s, words, w, true);
 }
 
 uint64_t CALL(finish)(uint64_t *state, size_t m, uint32_t *words, size_t w)
@@ -455,8 +492,80 @@ uint64_t CALL(finish)(uint64_t *state, size_t m, uint32_t *words, size_t w)
     words[trailer] = defining(TRAILER, slot | (uint32_t)(trailer + 1));
     for (size_t i = trailer + 1; i < length; i++)
         words[i] = defining(FILLER, slot);
-    memset(state, 0, FADC250_STATE_SETTINGS * sizeof *state);
+    memset(state, 0, FADC250_COUNTS * sizeof *state);
     return length;
+}
+
+/* ---- Counting. */
+
+static void start_tally(const uint64_t *state, struct tally *tally)
+{
+    memset(tally->seen, 0, sizeof tally->seen);
+    for (size_t c = 0; c < CHANNELS; c++) {
+        tally->threshold[c] = (int16_t)state[FADC250_STATE_SETTINGS + FADC250_THRESHOLDS + c];
+        tally->before[c] = (state[FADC250_OVER] >> c & 1) != 0 ? -1 : 0;
+    }
+}
+
+/* Adds the edges of so many frames, a chunk at a time: those of a chunk are counted in 16 bits. */
+static void count_all(const uint16_t *frames, size_t count, struct tally *tally, uint32_t *counts)
+{
+    for (size_t done = 0; done < count; done += CHUNK) {
+        memset(tally->edges, 0, sizeof tally->edges);
+        count_frames(frames + CHANNELS * done, least(CHUNK, count - done), tally);
+        for (size_t c = 0; c < CHANNELS; c++)
+            counts[c] += tally->edges[c];
+    }
+}
+
+static void put_counts(uint64_t *state, const uint32_t *counts, const struct tally *tally, size_t frames)
+{
+    const uint64_t part = state[FADC250_PART] + frames;
+    uint64_t over = 0;
+    for (size_t c = 0; c < CHANNELS; c++) {
+        state[FADC250_COUNTS + c] = counts[c];
+        over |= (uint64_t)(tally->before[c] & 1) << c;
+    }
+    state[FADC250_TIMER] = (uint32_t)(state[FADC250_TIMER] + part / GROUP);
+    state[FADC250_PART] = part % GROUP;
+    state[FADC250_OVER] = over;
+}
+
+/* The samples are looked at while they are counted, and nothing is stored before all of them are known to be good. */
+uint32_t CALL(count)(uint64_t *state, size_t m, const uint16_t *frames, size_t n)
+{
+    struct tally tally;
+    uint32_t counts[CHANNELS];
+    const size_t whole = n / CHANNELS;
+    if (!state_ok(state, m))
+        return FADC250_BAD_STATE;
+    start_tally(state, &tally);
+    for (size_t c = 0; c < CHANNELS; c++)
+        counts[c] = (uint32_t)state[FADC250_COUNTS + c];
+    count_all(frames, whole, &tally, counts);
+    if (!samples_ok(tally.seen, CHANNELS) || !samples_ok(frames + CHANNELS * whole, n % CHANNELS))
+        return FADC250_BAD_SAMPLE;
+    if (n % CHANNELS != 0)
+        return FADC250_BAD_FRAMES;
+    put_counts(state, counts, &tally, whole);
+    return FADC250_ACCEPTED;
+}
+
+uint32_t CALL(latch)(uint64_t *state, size_t m)
+{
+    if (!state_ok(state, m))
+        return FADC250_BAD_STATE;
+    memcpy(state + FADC250_LATCHED, state + FADC250_COUNTS, FADC250_SCALERS * sizeof *state);
+    return FADC250_ACCEPTED;
+}
+
+uint32_t CALL(reset)(uint64_t *state, size_t m)
+{
+    if (!state_ok(state, m))
+        return FADC250_BAD_STATE;
+    memset(state + FADC250_COUNTS, 0, FADC250_SCALERS * sizeof *state);
+    state[FADC250_PART] = 0;
+    return FADC250_ACCEPTED;
 }
 
 /* ---- The check. A part that is passed answers the place behind it; refused, the check's answer, which is greater
@@ -533,6 +642,18 @@ static inline uint64_t check_raw(struct block block, uint64_t place, uint32_t he
     return found == 0 || is_continuation(word) ? bad_pair(block, place) : place;
 }
 
+/* Their words may be any. Behind them only an event header or the trailer may stand. */
+static inline uint64_t check_scalers(struct block block, uint64_t place, uint32_t header)
+{
+    if ((header & 0x7FFFFC0) != 0)
+        return refused(FADC250_BAD_FIELD, place);
+    place += 1 + (header & 63);
+    if (place >= block.end)
+        return no_word(block.end);
+    const uint32_t kind = kind_of(word_at(block.bytes, place));
+    return kind == EVENT_HEADER || kind == TRAILER ? place : refused(FADC250_BAD_WORD, place);
+}
+
 static inline uint64_t check_times(struct block block, uint64_t place)
 {
     if (place == block.end)
@@ -588,6 +709,9 @@ static uint64_t check_events(struct block block, uint64_t place, uint32_t slot, 
             break;
         case PULSE_RAW:
             place = check_raw(block, place, word);
+            break;
+        case SCALERS:
+            place = check_scalers(block, place, word);
             break;
         case EVENT_HEADER:
             if (slot_of(word) != slot)

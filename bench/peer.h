@@ -15,7 +15,12 @@
     uint32_t rival##_post(uint64_t *state, size_t m, uint16_t *store, size_t s, uint32_t channel,                   \
                           const uint16_t *window, size_t n);                                                        \
     uint32_t rival##_close(uint64_t *state, size_t m, const uint16_t *store, size_t s, uint32_t *words, size_t w);  \
+    uint32_t rival##_close_with_scalers(uint64_t *state, size_t m, const uint16_t *store, size_t s,                 \
+                                        uint32_t *words, size_t w);                                                 \
     uint64_t rival##_finish(uint64_t *state, size_t m, uint32_t *words, size_t w);                                  \
+    uint32_t rival##_count(uint64_t *state, size_t m, const uint16_t *frames, size_t n);                            \
+    uint32_t rival##_latch(uint64_t *state, size_t m);                                                              \
+    uint32_t rival##_reset(uint64_t *state, size_t m);                                                              \
     uint32_t rival##_find(const uint64_t *settings, size_t n, uint32_t channel, const uint16_t *window, size_t len, \
                           uint32_t *out, size_t o);                                                                 \
     uint64_t rival##_check(const uint8_t *bytes, size_t n);

@@ -37,6 +37,21 @@ static inline uint32_t sum_of(const uint16_t *samples, size_t n)
     return sum;
 }
 
+/* Counts so many frames. No early exit: the channels of a frame become vector code. */
+static inline void count_frames(const uint16_t *frames, size_t count, struct tally *into)
+{
+    struct tally tally = *into;
+    for (size_t i = 0; i < count; i++)
+        for (size_t c = 0; c < CHANNELS; c++) {
+            const uint16_t sample = frames[CHANNELS * i + c];
+            const int16_t over = (int16_t)(sample & AMPLITUDE) > tally.threshold[c] ? -1 : 0;
+            tally.seen[c] |= sample;
+            tally.edges[c] = (uint16_t)(tally.edges[c] - (over & ~tally.before[c]));
+            tally.before[c] = over;
+        }
+    *into = tally;
+}
+
 static inline void put_whole_pairs(const uint16_t *samples, size_t pairs, uint32_t *to)
 {
     for (size_t i = 0; i < pairs; i++)

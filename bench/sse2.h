@@ -114,6 +114,71 @@ static inline uint32_t sum_of(const uint16_t *samples, size_t n)
     return sum;
 }
 
+/* Eight channels of a tally, in the registers. What is over is all ones. */
+struct half {
+    __m128i threshold, before, edges, seen;
+};
+
+static inline struct half half_of(const struct tally *tally, size_t first)
+{
+    const struct half half = {load(tally->threshold + first), load(tally->before + first), load(tally->edges + first),
+                              load(tally->seen + first)};
+    return half;
+}
+
+static inline void put_half(const struct half *half, struct tally *tally, size_t first)
+{
+    _mm_storeu_si128((__m128i *)(tally->before + first), half->before);
+    _mm_storeu_si128((__m128i *)(tally->edges + first), half->edges);
+    _mm_storeu_si128((__m128i *)(tally->seen + first), half->seen);
+}
+
+/* Of one frame. Taking away all ones adds one. */
+static inline void count_half(struct half *half, const uint16_t *samples)
+{
+    const __m128i over = _mm_cmpgt_epi16(amplitudes(samples), half->threshold);
+    half->seen = either(half->seen, load(samples));
+    half->edges = _mm_sub_epi16(half->edges, _mm_andnot_si128(half->before, over));
+    half->before = over;
+}
+
+/* Which channels are over in one of eight frames: their greatest is. */
+static inline __m128i over_in_eight(struct half *half, const uint16_t *samples)
+{
+    __m128i top = _mm_setzero_si128();
+    for (size_t i = 0; i < 8; i++) {
+        half->seen = either(half->seen, load(samples + CHANNELS * i));
+        top = _mm_max_epi16(top, amplitudes(samples + CHANNELS * i));
+    }
+    return _mm_cmpgt_epi16(top, half->threshold);
+}
+
+static inline bool none(__m128i low, __m128i high)
+{
+    return _mm_movemask_epi8(either(low, high)) == 0;
+}
+
+/* Eight frames at a time. Behind a frame in which no channel was over the next eight are mostly as quiet. */
+static inline void count_frames(const uint16_t *frames, size_t count, struct tally *tally)
+{
+    struct half low = half_of(tally, 0), high = half_of(tally, 8);
+    for (size_t i = 0; i < count;) {
+        const uint16_t *at = frames + CHANNELS * i;
+        const size_t end = least(i + 8, count);
+        if (end == i + 8 && none(low.before, high.before) &&
+            none(over_in_eight(&low, at), over_in_eight(&high, at + 8))) {
+            i = end;
+            continue;
+        }
+        for (; i < end; i++) {
+            count_half(&low, frames + CHANNELS * i);
+            count_half(&high, frames + CHANNELS * i + 8);
+        }
+    }
+    put_half(&low, tally, 0);
+    put_half(&high, tally, 8);
+}
+
 /* A word of memory holds the second sample above the first: the halves change places. */
 static inline void put_four_pairs(const uint16_t *samples, uint32_t *to)
 {

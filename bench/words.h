@@ -18,11 +18,13 @@ enum kind {
     INTEGRAL = 23,
     TIME = 24,
     PEDESTAL = 26,
+    SCALERS = 28,
     MODULE_EMPTY = 30,
     FILLER = 31
 };
 
 enum {
+    CHANNELS = 16,
     MOST_SAMPLE = 8191,
     AMPLITUDE = 0xFFF,
     SECOND_NOT_VALID = 1 << 13,
@@ -61,6 +63,13 @@ static inline uint32_t amplitude(uint16_t sample)
 {
     return sample & AMPLITUDE;
 }
+
+/* What frames are counted into, a channel each: its threshold; all ones if it was over in the frame before; how often
+   it came to be over, which 65535 frames cannot make too many; and every bit that one of its samples had. */
+struct tally {
+    int16_t threshold[CHANNELS], before[CHANNELS];
+    uint16_t edges[CHANNELS], seen[CHANNELS];
+};
 
 static inline uint32_t pair(uint16_t first, uint16_t second)
 {

@@ -2,7 +2,7 @@
 import ctypes
 import sys
 
-check = ctypes.CDLL("libfadc250.so.1").fadc250_check
+check = ctypes.CDLL("libfadc250.so.2").fadc250_check
 check.argtypes = [ctypes.c_char_p, ctypes.c_size_t]
 check.restype = ctypes.c_uint64
 

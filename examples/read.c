@@ -6,7 +6,7 @@
 #define ROOM 16384
 
 /* The name of each kind of record and of its fields, each in its place. */
-static const char *const names[FADC250_KIND_END + 1][FADC250_RECORD] = {
+static const char *const names[FADC250_KIND_SCALERS + 1][FADC250_RECORD] = {
     [FADC250_KIND_BLOCK] = {"block", "slot", "number", "events"},
     [FADC250_KIND_PARAMETERS] = {"parameters", "PL", "NSB", "NSA"},
     [FADC250_KIND_EVENT] = {"event", "slot", "number"},
@@ -20,7 +20,8 @@ static const char *const names[FADC250_KIND_END + 1][FADC250_RECORD] = {
     [FADC250_KIND_TRAILER] = {"trailer", "slot", "words"},
     [FADC250_KIND_FILLERS] = {"fillers", "slot", "count"},
     [FADC250_KIND_EMPTY] = {"module empty", "slot"},
-    [FADC250_KIND_END] = {"end"}};
+    [FADC250_KIND_END] = {"end"},
+    [FADC250_KIND_SCALERS] = {"scalers", NULL, "count", NULL, "place"}};
 
 static uint8_t bytes[4 * ROOM];
 static uint32_t words[ROOM];
@@ -49,6 +50,17 @@ static void print_samples(const uint32_t *block, size_t w, const uint64_t *recor
     printf("\n");
 }
 
+/* So are an event's scalers, each of them a word. */
+static void print_scalers(const uint32_t *block, const uint64_t *record)
+{
+    if (record[FADC250_KIND] != FADC250_KIND_SCALERS || record[FADC250_FIELD_COUNT] == 0)
+        return;
+    printf("   ");
+    for (uint64_t i = 0; i < record[FADC250_FIELD_COUNT]; i++)
+        printf(" %" PRIu32, block[record[FADC250_FIELD_PLACE] + i]);
+    printf("\n");
+}
+
 /* Prints the records of a block and answers its length in words, 0 if it is refused. */
 static size_t read_block(const uint32_t *block, size_t w)
 {
@@ -64,6 +76,7 @@ static size_t read_block(const uint32_t *block, size_t w)
         }
         print_record(record);
         print_samples(block, w, record);
+        print_scalers(block, record);
     } while (record[FADC250_KIND] != FADC250_KIND_END);
     return (size_t)answer;
 }

@@ -2,6 +2,8 @@
 
    Writing: fadc250_set_up once; then for each block fadc250_open_block, for each of its events fadc250_open_event,
    fadc250_post for every channel that has a window, fadc250_close, and at the end of the block fadc250_finish.
+   Rates: fadc250_count at any time with the frames as they come, fadc250_latch, fadc250_reset; an event that is closed
+   by fadc250_close_with_scalers ends with the latched counts.
    Reading: fadc250_check judges a block, fadc250_next reads it record by record, fadc250_list makes a text of it.
    fadc250_find looks for the pulses of one window. The example at the end of this file writes a block.
 
@@ -11,20 +13,22 @@
    length in elements; with the length 0 the pointer may be NULL, as an empty std::vector gives it. An array that a
    call writes must not overlap another of the same call.
 
-   Answers. fadc250_set_up, _open_block, _open_event, _post, _close and _find answer 0 if they are accepted, else the
-   refusal. fadc250_finish, _check and _next answer 64 bits: the upper 32 are 0 if they are accepted, else the
-   refusal; the lower 32 are a number of words, or the place of the refused word. fadc250_samples and _list answer a
-   count and are never refused. fadc250_text gives a refusal's text.
+   Answers. fadc250_set_up, _open_block, _open_event, _post, _close, _close_with_scalers, _count, _latch, _reset and
+   _find answer 0 if they are accepted, else the refusal. fadc250_finish, _check and _next answer 64 bits: the upper 32
+   are 0 if they are accepted, else the refusal; the lower 32 are a number of words, or the place of the refused word.
+   fadc250_samples and _list answer a count and are never refused. fadc250_text gives a refusal's text.
 
    Order. If a call is to be refused for more than one reason, the answer is the first of the refusals in the order
-   that stands with the call. For all the calls of writing but set up it is 10, 7, 8, 4, 5, 6, 2, 3, 9.
+   that stands with the call. For all the calls of writing but set up it is 10, 7, 8, 4, 5, 6, 2, 3, 9; for those of
+   counting 10, 3, 19.
 
    A refused call changes nothing that was lent, but for what it was to fill as a whole: set up's state, find's
    numbers and next's record become zeros, so that nothing older is taken for its answer.
 
    Giving up. No call takes back a block or an event. Go back to a copy of the state from before fadc250_open_block,
    or from before fadc250_open_event to keep the events that were closed until then, or set up again; the words
-   written since are not to be used. Or close the open event, open and close the remaining ones without a post, and
+   written since are not to be used. Such a copy has the counts of then too: to keep those of now, go back only with
+   the numbers before FADC250_COUNTS. Or close the open event, open and close the remaining ones without a post, and
    finish: that is a whole block. */
 #ifndef FADC250_H
 #define FADC250_H
@@ -37,24 +41,29 @@ extern "C" {
 #endif
 
 /* The version of this header and of the library that was installed with it. */
-#define FADC250_VERSION_MAJOR 1
+#define FADC250_VERSION_MAJOR 2
 #define FADC250_VERSION_MINOR 0
-#define FADC250_VERSION "1.0"
+#define FADC250_VERSION "2.0"
 
-/* The most words of an event, and of a block of so many events: header, parameters, events, trailer, fillers. */
-#define FADC250_EVENT_WORDS 12051
+/* The most words of an event, its scalers counted, and of a block of so many events: header, parameters, events,
+   trailer, fillers. */
+#define FADC250_EVENT_WORDS 12070
 #define FADC250_BLOCK_WORDS(events) (2 + FADC250_EVENT_WORDS * (events) + 1 + 3)
 
 /* The samples of a store: sixteen rows of NW. */
 #define FADC250_STORE(nw) (16 * (nw))
+
+/* The samples of a frame, one of each channel, and the latched counts: of each channel, the timer, the triggers. */
+#define FADC250_FRAME 16
+#define FADC250_SCALERS 18
 
 /* The refusals. */
 enum fadc250_refusal {
     FADC250_ACCEPTED = 0,
     FADC250_BAD_SETTING = 1, /* set up, find: not FADC250_SETTINGS settings, or one that is out of its range */
     FADC250_SHORT_STORE = 2, /* post, close: the store has fewer than 16 * NW samples */
-    FADC250_BAD_SAMPLE = 3,  /* post, find: a sample of the window is over 8191;
-                                close: one in a posted channel's row of the store is */
+    FADC250_BAD_SAMPLE = 3,  /* post, find: a sample of the window is over 8191; close: one in a posted channel's row
+                                of the store is; count: one of the samples is, behind the last whole frame too */
     FADC250_BAD_CHANNEL = 4, /* post, find: the channel is over 15 */
     FADC250_BAD_LENGTH = 5,  /* post, find: the window has not NW samples */
     FADC250_POSTED = 6,      /* post: the channel was already posted in this event */
@@ -72,6 +81,7 @@ enum fadc250_refusal {
                                 or a block that is too long */
     FADC250_BAD_SLOT = 15,   /* check, next: the slot differs from the block header's */
     FADC250_BAD_BYTES = 16,  /* check: the bytes are no multiple of 4 */
+    FADC250_BAD_FRAMES = 19, /* count: the samples are no multiple of 16, no whole frames */
     FADC250_BAD_ARRAY = 64   /* set up's state, find's numbers, a scan or a record: not as many as the call asks for,
                                 or numbers that are no scan */
 };
@@ -98,6 +108,8 @@ static inline const char *fadc250_text(uint64_t number)
         "the slot differs from the block header's",
         "the bytes are no multiple of 4",
     };
+    if (number == FADC250_BAD_FRAMES)
+        return "the samples are no whole frames";
     if (number == FADC250_BAD_ARRAY)
         return "an array has a wrong length, or is no scan";
     return number < sizeof texts / sizeof texts[0] ? texts[number] : "unknown";
@@ -161,7 +173,8 @@ static inline void fadc250_put_settings(const struct fadc250_settings *named, ui
 
 /* The places of the state, behind which the settings stand. Only fadc250_set_up writes the settings; the other calls
    change what is before them. The host may read all; a state that it changes itself is refused with 10 if it breaks
-   the ranges. */
+   the ranges. What is counted stays through all phases, idle too: only set up, count, open event (its trigger), latch
+   and reset change it. */
 enum fadc250_place {
     FADC250_PHASE = 0,          /* 0 idle, 1 in a block, 2 in an event */
     FADC250_BLOCK = 1,          /* the open block's number */
@@ -171,8 +184,14 @@ enum fadc250_place {
     FADC250_MARKS = 5,          /* bit c is set once channel c is posted */
     FADC250_CLOSED = 6,         /* events closed in this block */
     FADC250_WORDS = 7,          /* words written to it */
-    FADC250_STATE_SETTINGS = 8, /* setting i stands at FADC250_STATE_SETTINGS + i */
-    FADC250_STATE = FADC250_STATE_SETTINGS + FADC250_SETTINGS /* how many numbers a state is */
+    FADC250_COUNTS = 8,         /* channel c's running count at FADC250_COUNTS + c; below 2^32, as are all counts */
+    FADC250_TIMER = 24,         /* the running timer: whole groups of 512 frames */
+    FADC250_TRIGGERS = 25,      /* the running count of events opened */
+    FADC250_PART = 26,          /* frames of the group that is not whole yet, under 512 */
+    FADC250_OVER = 27,          /* bit c is set if channel c was over in the last frame */
+    FADC250_LATCHED = 28,       /* FADC250_SCALERS latched counts: the channels', the timer, the triggers */
+    FADC250_STATE_SETTINGS = FADC250_LATCHED + FADC250_SCALERS, /* setting i stands at FADC250_STATE_SETTINGS + i */
+    FADC250_STATE = FADC250_STATE_SETTINGS + FADC250_SETTINGS   /* how many numbers a state is */
 };
 
 /* ---- Writing a block. The arrays are: the n settings; the m numbers of the state; the store, s samples, at least
@@ -201,10 +220,33 @@ uint32_t fadc250_post(uint64_t *state, size_t m, uint16_t *store, size_t s, uint
    posted. Refusals: 10, 7, 2, 3, 9. */
 uint32_t fadc250_close(uint64_t *state, size_t m, const uint16_t *store, size_t s, uint32_t *words, size_t w);
 
+/* The same, and the event ends with its scalers, behind the words of the last channel: a word of type 12 that says how
+   many there are, FADC250_SCALERS, and the latched counts as they stand in the state, a word each. They are the
+   event's and no channel's. Refusals: 10, 7, 2, 3, 9, which asks for room for them too. */
+uint32_t fadc250_close_with_scalers(uint64_t *state, size_t m, const uint16_t *store, size_t s, uint32_t *words,
+                                    size_t w);
+
 /* Finishes the block: writes its trailer and the fewest fillers that make its length a multiple of the setting; the
    state is idle. Answers the block's length in words, fillers counted, or (refusal << 32), which is never a length.
    Refusals: 10, 7, 9. */
 uint64_t fadc250_finish(uint64_t *state, size_t m, uint32_t *words, size_t w);
+
+/* ---- Counting, in every phase. All counts wrap at 2^32: they go on at 0 behind 4294967295. */
+
+/* Counts frames: n samples, FADC250_FRAME a frame, channel 0's first, the oldest frame first. A channel counts a frame
+   in which it is over and was not in the frame before, which may have come with an earlier call; before the first
+   frame after set up all were under. The timer counts every 512th frame (2,048 ns) since set up or the last reset. No
+   frames (n 0) change nothing.
+   Refusals: 10, 3, 19 if n is no multiple of FADC250_FRAME. Refused, none of the frames counts. */
+uint32_t fadc250_count(uint64_t *state, size_t m, const uint16_t *frames, size_t n);
+
+/* Latches: copies the running counts, timer and triggers to FADC250_LATCHED, all FADC250_SCALERS at once. They are
+   zero before the first latch. Refusals: 10. */
+uint32_t fadc250_latch(uint64_t *state, size_t m);
+
+/* Resets: the running counts, the timer, the triggers and the timer's part group become zero; not the latched counts,
+   nor which channels were over in the last frame. Refusals: 10. */
+uint32_t fadc250_reset(uint64_t *state, size_t m);
 
 /* ---- Finding pulses. */
 
@@ -297,7 +339,8 @@ enum fadc250_stage {
                                  holds one sample */
     FADC250_STAGE_RAW = 7,    /* type 6 or one of its pairs; first: pairs that may still come; second: 1 if one was
                                  read */
-    FADC250_STAGE_TAIL = 8    /* the trailer, a filler, or a module empty; first: fillers that may still come */
+    FADC250_STAGE_TAIL = 8,   /* the trailer, a filler, or a module empty; first: fillers that may still come */
+    FADC250_STAGE_SCALERS = 9 /* type 12 or one of its words; first: words of it to come */
 };
 
 /* The kinds of record. */
@@ -318,7 +361,10 @@ enum fadc250_kind {
     FADC250_KIND_TRAILER = 13,   /* trailer: SLOT, WORDS */
     FADC250_KIND_FILLERS = 14,   /* fillers that follow each other: SLOT, COUNT */
     FADC250_KIND_EMPTY = 15,     /* module empty: SLOT */
-    FADC250_KIND_END = 16        /* no record: the block has ended */
+    FADC250_KIND_END = 16,       /* no record: the block has ended */
+    FADC250_KIND_SCALERS = 17,   /* type 12, an event's scalers: COUNT, PLACE; they are COUNT words from words[PLACE]
+                                    on, the place behind the word of type 12, also if there are none */
+    FADC250_KIND_SCALER = 18     /* a scaler word on its own: VALUE (see fadc250_next) */
 };
 
 /* The places of a record's numbers: its kind, then the fields that its kind has. The others are 0. */
@@ -329,11 +375,12 @@ enum fadc250_field {
     FADC250_FIELD_PL = 1,
     FADC250_FIELD_TIME = 1,
     FADC250_FIELD_FIRST = 1,      /* a pair's first sample */
+    FADC250_FIELD_VALUE = 1,      /* a scaler word */
     FADC250_FIELD_NUMBER = 2,     /* of the block, of the event */
     FADC250_FIELD_PULSE = 2,      /* which pulse of the window, from 0 */
     FADC250_FIELD_NSB = 2,
     FADC250_FIELD_WORDS = 2,      /* words from the block header to the trailer */
-    FADC250_FIELD_COUNT = 2,      /* how many fillers */
+    FADC250_FIELD_COUNT = 2,      /* how many fillers, how many scaler words: 0 to 63 */
     FADC250_FIELD_SECOND = 2,     /* a pair's second sample */
     FADC250_FIELD_EVENTS = 3,
     FADC250_FIELD_NSA = 3,
@@ -341,7 +388,7 @@ enum fadc250_field {
     FADC250_FIELD_TC = 3,
     FADC250_FIELD_QUALITY = 3,    /* of an integral 1: the sum was greater than its word holds */
     FADC250_FIELD_NOT_FIRST = 3,  /* 1: a pair's first sample is not valid */
-    FADC250_FIELD_PLACE = 4,      /* the place of the first word of pairs */
+    FADC250_FIELD_PLACE = 4,      /* the place of the first word of pairs, or of scalers */
     FADC250_FIELD_SUM = 4,
     FADC250_FIELD_COARSE = 4,
     FADC250_FIELD_VMIN = 4,
@@ -357,17 +404,18 @@ enum fadc250_field {
    FADC250_RECORD stays.
 
    Accepted, it fills in the record, moves the scan behind it and answers how many words of the block were read so far,
-   less than 2^32. A raw item is read with all its pairs, and refused if one of them is. A time is read with its second
-   word, and fillers together, up to a word that is refused: that is for the next call. At the block's end the kind is
+   less than 2^32. A raw item is read with all its pairs, scalers with all their words, and refused if one of them is.
+   A time is read with its second word, and fillers together, up to a word that is refused: that is for the next call.
+   Scaler words may have any bits: one that looks like an event header is a scaler. At the block's end the kind is
    FADC250_KIND_END, the scan stays, and the answer is the block's length, as fadc250_check gives it; the next block
    starts at words + that number, with a scan of zeros.
 
    Refused, it answers (refusal << 32) + place, as fadc250_check does for the same block: 11 to 15. Then the scan
-   stays, and the record is filled with zeros. (64 << 32) if the numbers are no scan (not FADC250_SCAN, a stage over 8,
+   stays, and the record is filled with zeros. (64 << 32) if the numbers are no scan (not FADC250_SCAN, a stage over 9,
    a second number over 1), and, after all others, if r is less than FADC250_RECORD: such a record stays as it is.
 
-   FADC250_KIND_TIME_HIGH and FADC250_KIND_PAIR come only to a scan that the host made itself, or if the words are not
-   those that the scan was read from: lend all words of a block from the first call on. */
+   FADC250_KIND_TIME_HIGH, FADC250_KIND_PAIR and FADC250_KIND_SCALER come only to a scan that the host made itself, or
+   if the words are not those that the scan was read from: lend all words of a block from the first call on. */
 uint64_t fadc250_next(uint32_t *scan, size_t k, const uint32_t *words, size_t w, uint64_t *record, size_t r);
 
 /* The samples of a raw item: place and pairs are the record's FADC250_FIELD_PLACE and FADC250_FIELD_PAIRS, the w words

@@ -1,5 +1,6 @@
 /* What the header promises, in C and C++: its own functions and sizes, NULL with the length 0 for every array of every
-   call, and the ways out of a block. Prints each refusal with its text, and whatever is not as promised. */
+   call, the places of what is counted, and the ways out of a block. Prints each refusal with its text, and whatever is
+   not as promised. */
 #include <fadc250.h>
 #include <stdio.h>
 #include <string.h>
@@ -41,8 +42,11 @@ static void sizes(void)
     char version[16];
     sprintf(version, "%d.%d", FADC250_VERSION_MAJOR, FADC250_VERSION_MINOR);
     expect("version", (uint64_t)strcmp(version, FADC250_VERSION), 0);
-    expect("words of 255 events", FADC250_BLOCK_WORDS(200 + 55), 3073011);
+    expect("words of 255 events", FADC250_BLOCK_WORDS(200 + 55), 3077856);
     expect("store of 500", FADC250_STORE(499 + 1), 8000);
+    expect("a state", FADC250_STATE, 72);
+    expect("its settings", FADC250_STATE_SETTINGS, FADC250_WORDS + 1 + 16 + 4 + FADC250_SCALERS);
+    expect("the latched counts", FADC250_SCALERS, FADC250_FRAME + 2);
 }
 
 /* Each setting has its own place as its value. */
@@ -95,7 +99,11 @@ static void nothing(void)
     expect("open event", fadc250_open_event(NULL, 0, 1, 1), FADC250_BAD_STATE);
     expect("post", fadc250_post(NULL, 0, NULL, 0, 1, NULL, 0), FADC250_BAD_STATE);
     expect("close", fadc250_close(NULL, 0, NULL, 0, NULL, 0), FADC250_BAD_STATE);
+    expect("close with scalers", fadc250_close_with_scalers(NULL, 0, NULL, 0, NULL, 0), FADC250_BAD_STATE);
     expect("finish", fadc250_finish(NULL, 0, NULL, 0), REFUSED(FADC250_BAD_STATE, 0));
+    expect("count", fadc250_count(NULL, 0, NULL, 0), FADC250_BAD_STATE);
+    expect("latch", fadc250_latch(NULL, 0), FADC250_BAD_STATE);
+    expect("reset", fadc250_reset(NULL, 0), FADC250_BAD_STATE);
     expect("find", fadc250_find(NULL, 0, 1, NULL, 0, NULL, 0), FADC250_BAD_SETTING);
     expect("check", fadc250_check(NULL, 0), REFUSED(FADC250_ENDS_EARLY, 0));
     expect("next", fadc250_next(NULL, 0, NULL, 0, NULL, 0), REFUSED(FADC250_BAD_ARRAY, 0));
@@ -137,6 +145,11 @@ static uint32_t close_event(void)
     return fadc250_close(state, FADC250_STATE, store, FADC250_STORE(1), words, ROOM);
 }
 
+static uint32_t close_with_scalers(void)
+{
+    return fadc250_close_with_scalers(state, FADC250_STATE, store, FADC250_STORE(1), words, ROOM);
+}
+
 /* Each array in turn with nothing, where the call looks further than that. */
 static void nothing_else(void)
 {
@@ -150,6 +163,7 @@ static void nothing_else(void)
     expect("no store", fadc250_post(state, FADC250_STATE, NULL, 0, 3, window, 1), FADC250_SHORT_STORE);
     expect("no window", fadc250_post(state, FADC250_STATE, store, FADC250_STORE(1), 3, NULL, 0), FADC250_BAD_LENGTH);
     expect("post", post(), 0);
+    expect("no frames", fadc250_count(state, FADC250_STATE, NULL, 0), 0);
     expect("no store to close", fadc250_close(state, FADC250_STATE, NULL, 0, words, ROOM), FADC250_SHORT_STORE);
     expect("no words", fadc250_close(state, FADC250_STATE, store, FADC250_STORE(1), NULL, 0), FADC250_SHORT_WORDS);
     expect("no window to find", fadc250_find(settings, FADC250_SETTINGS, 3, NULL, 0, NULL, 0), FADC250_BAD_LENGTH);
@@ -158,6 +172,73 @@ static void nothing_else(void)
            REFUSED(FADC250_ENDS_EARLY, 0));
     expect("no record", fadc250_next(scan, FADC250_SCAN, words, 1, NULL, 0), REFUSED(FADC250_BAD_ARRAY, 0));
     expect("zeros", record[0] + record[FADC250_RECORD - 1], 0);
+}
+
+/* The sum of so many numbers of the state, each of which has another weight. */
+static uint64_t weighed(size_t place, size_t count)
+{
+    uint64_t sum = 0;
+    for (size_t i = 0; i < count; i++)
+        sum += (i + 1) * state[place + i];
+    return sum;
+}
+
+/* What two frames leave at the places of an idle state: channel 3 is over in both, channel 5 in the second. A frame
+   and a half are refused. */
+static void count_frames(void)
+{
+    uint16_t frames[2 * FADC250_FRAME] = {0};
+    frames[3] = frames[FADC250_FRAME + 3] = 101;
+    frames[FADC250_FRAME + 5] = 1;
+    expect("set up", fadc250_set_up(settings, FADC250_SETTINGS, state, FADC250_STATE), 0);
+    expect("all zero", weighed(0, FADC250_STATE_SETTINGS), 0);
+    expect("a frame and a half", fadc250_count(state, FADC250_STATE, frames, 24), FADC250_BAD_FRAMES);
+    expect("count", fadc250_count(state, FADC250_STATE, frames, 2 * FADC250_FRAME), 0);
+    expect("channels 3 and 5", weighed(FADC250_COUNTS, 16), 4 + 6);
+    expect("part", state[FADC250_PART], 2);
+    expect("over", state[FADC250_OVER], 1 << 3 | 1 << 5);
+    state[FADC250_PART] = 511;
+    expect("the 512th", fadc250_count(state, FADC250_STATE, frames, FADC250_FRAME), 0);
+    expect("timer", state[FADC250_TIMER], 1);
+    expect("latch", fadc250_latch(state, FADC250_STATE), 0);
+    expect("latched", weighed(FADC250_LATCHED, FADC250_SCALERS), 4 + 6 + 17);
+    expect("reset", fadc250_reset(state, FADC250_STATE), 0);
+    expect("running", weighed(FADC250_COUNTS, FADC250_PART + 1 - FADC250_COUNTS), 0);
+    expect("still over", state[FADC250_OVER], 1 << 3);
+    expect("still latched", weighed(FADC250_LATCHED, FADC250_SCALERS), 4 + 6 + 17);
+    state[FADC250_OVER] = 1 << 16;
+    expect("no such channel", fadc250_latch(state, FADC250_STATE), FADC250_BAD_STATE);
+    state[FADC250_OVER] = 0;
+}
+
+/* From what count_frames left: a block of two events, of which the second ends with the scalers. The record says where
+   they stand, and a scan within them reads a word. */
+static void scalers(void)
+{
+    uint32_t scan[FADC250_SCAN] = {0, 0, 0, 0, 0, 0};
+    uint64_t record[FADC250_RECORD] = {0, 0, 0, 0, 0, 0};
+    expect("open block", open_block(), 0);
+    expect("open event", open_event(), 0);
+    expect("close", close_event(), 0);
+    expect("open the second", open_event(), 0);
+    expect("triggers", state[FADC250_TRIGGERS], 2);
+    expect("latch", fadc250_latch(state, FADC250_STATE), 0);
+    expect("close it with scalers", close_with_scalers(), 0);
+    expect("finish", fadc250_finish(state, FADC250_STATE, words, ROOM), 27);
+    expect("kept", state[FADC250_TRIGGERS] + state[FADC250_LATCHED + 17], 4);
+    for (int i = 0; i < 6; i++) /* block header, twice event header and time, scalers */
+        fadc250_next(scan, FADC250_SCAN, words, 27, record, FADC250_RECORD);
+    expect("scalers", record[FADC250_KIND], FADC250_KIND_SCALERS);
+    expect("how many", record[FADC250_FIELD_COUNT], FADC250_SCALERS);
+    expect("where", record[FADC250_FIELD_PLACE], 8);
+    expect("the last of them", words[record[FADC250_FIELD_PLACE] + 17], 2);
+    expect("stage", scan[FADC250_SCAN_STAGE], FADC250_STAGE_SCALERS);
+    expect("none to come", scan[FADC250_SCAN_FIRST], 0);
+    scan[FADC250_SCAN_PLACE] = 25;
+    scan[FADC250_SCAN_FIRST] = 1;
+    expect("a word", fadc250_next(scan, FADC250_SCAN, words, 27, record, FADC250_RECORD), 26);
+    expect("alone", record[FADC250_KIND], FADC250_KIND_SCALER);
+    expect("its value", record[FADC250_FIELD_VALUE], 2);
 }
 
 /* A count is answered with and without room; a module empty is a block of one word. */
@@ -208,6 +289,8 @@ int main(void)
     small_settings();
     nothing_else();
     give_up();
+    count_frames();
+    scalers();
     expect("the example", one_block(words, ROOM), 6);
     counts();
     return wrong;

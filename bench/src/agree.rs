@@ -80,5 +80,7 @@ pub fn agree() -> String {
     let steps: usize = (0..SEQUENCES).map(sequence).sum();
     let inputs: usize = (0..INPUTS).map(reader).sum();
     limit_cases().for_each(|case| check(&case.bytes, case.kind));
-    format!("{WINDOWS} windows, {steps} calls of writing and {inputs} inputs of the check")
+    format!(
+        "{WINDOWS} windows, {steps} calls of writing and counting and {inputs} inputs of the check"
+    )
 }

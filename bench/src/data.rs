@@ -1,11 +1,12 @@
-//! The windows and blocks that are timed. `cost.c` makes the same.
+//! The windows, frames and blocks that are timed. `cost.c` makes the same.
 
 use second::cases::{Second, Side};
 use second::words;
+use second::writer::State;
 
 /// The place in a state of the words written.
 const WORDS: usize = 7;
-/// The numbers of the state that are not settings.
+/// The numbers of the state that the calls of writing move: those before the counts. The triggers may go on.
 pub const MOVING: usize = 8;
 
 /// PL 20, NSB 3, NSA 10, limit 3, slot 5, parameters, two time words, even blocks, all thresholds 100.
@@ -27,6 +28,18 @@ pub fn window(nw: usize, busy: bool) -> Vec<u16> {
 pub fn sparse_window(nw: usize, busy: bool) -> Vec<u16> {
     let pulse = |k: usize| if busy && (51..60).contains(&(k % 100)) { 300 } else { 0 };
     (0..nw).map(|k| 10 + (k % 3) as u16 + pulse(k)).collect()
+}
+
+/// So many frames in which no channel is over, or in which each is in about half of them, by the upper bits of numbers
+/// without a pattern.
+pub fn frames(count: usize, busy: bool) -> Vec<u16> {
+    let (mut frames, mut bits) = (Vec::new(), 1u32);
+    for number in 0..count {
+        bits = bits.wrapping_mul(1_664_525).wrapping_add(1_013_904_223);
+        let pulse = |channel: u32| if busy && bits >> (16 + channel) & 1 == 1 { 300 } else { 0 };
+        frames.extend((0..16).map(|channel| 10 + (number % 3) as u16 + pulse(channel)));
+    }
+    frames
 }
 
 /// How many samples the search looks at, by its definition: 1 to TC, then those behind TC + NSA to the next TC, up to
@@ -52,10 +65,16 @@ pub struct Lent {
     pub words: Vec<u32>,
 }
 
+/// A state that was just set up.
+pub fn idle(mode: u64, nw: usize) -> Vec<u64> {
+    let mut state = vec![0; State::NUMBERS];
+    assert_eq!(Second.set_up(&settings(mode, nw), &mut state), 0);
+    state
+}
+
 /// In a block, before its first event; room for a few of the longest.
 pub fn in_block(mode: u64, nw: usize) -> Lent {
-    let mut lent = Lent { state: vec![0; 34], store: vec![0; 16 * nw], words: vec![0; 40_000] };
-    assert_eq!(Second.set_up(&settings(mode, nw), &mut lent.state), 0);
+    let mut lent = Lent { state: idle(mode, nw), store: vec![0; 16 * nw], words: vec![0; 40_000] };
     assert_eq!(Second.open_block(&mut lent.state, &mut lent.words, 1, 255), 0);
     lent
 }

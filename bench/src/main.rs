@@ -146,8 +146,8 @@ fn write_block(side: &dyn Side, window: &[u16], lent: &mut Lent) -> u64 {
 fn event_row(mode: u64, nw: usize, busy: bool) {
     let name = format!("mode {mode}, NW {nw}, {}", if busy { "pulses" } else { "quiet" });
     let window = data::sparse_window(nw, busy);
-    let mut lent = Lent { words: vec![0; 2_500_000], ..data::in_block(mode, nw) };
-    assert_eq!(Second.set_up(&data::settings(mode, nw), &mut lent.state), 0);
+    let mut lent =
+        Lent { state: data::idle(mode, nw), words: vec![0; 2_500_000], ..data::in_block(mode, nw) };
     same(&name, &|side| {
         let mut lent = lent.clone();
         (write_block(side, &window, &mut lent), lent)
@@ -159,6 +159,29 @@ fn event_row(mode: u64, nw: usize, busy: bool) {
     });
     let recorded = 4e-9 * nw as f64 * f64::from(EVENTS_OF_BLOCK);
     row(name, &measured, &|seconds| seconds / recorded, &[]);
+}
+
+const FRAMES: usize = 4_096;
+/// What the digitiser gives in a second, one every 4 ns.
+const DIGITISED: f64 = 250e6;
+
+/// The counts and what was over go on from call to call.
+fn counting_row(busy: bool) {
+    let (state, frames) = (data::idle(7, 100), data::frames(FRAMES, busy));
+    let count = |side: &dyn Side, state: &mut [u64]| side.count(state, black_box(&frames));
+    same(loudness(busy), &|side| {
+        let mut state = state.clone();
+        (count(side, &mut state), count(side, &mut state), state)
+    });
+    let mut used = state.clone();
+    let measured = measure(processor, SIDES.len(), &mut |side, times| {
+        for _ in 0..times {
+            assert_eq!(count(SIDES[side], &mut used), 0);
+        }
+    });
+    let speed = |seconds: f64| FRAMES as f64 / seconds;
+    let share = number(speed(measured.seconds[0]) / DIGITISED);
+    row(loudness(busy).to_string(), &measured, &|seconds| speed(seconds) / 1e6, &[share]);
 }
 
 /// Checks block after block to the end of the bytes, each of them this long.
@@ -256,6 +279,9 @@ fn main() {
     writing_rows();
     table("Whole events, in recording times", EVENTS, &COLUMNS);
     modes().for_each(|(mode, nw, busy)| event_row(mode, nw, busy));
+    table("Counting, million frames a second", COUNTING, &[&COLUMNS[..], &["digitiser"]].concat());
+    counting_row(false);
+    counting_row(true);
     let blocks = blocks();
     let columns = [&COLUMNS[..], &["read", "memcpy"]].concat();
     table("Check of a block of 16 KB, GB/s", CHECK, &columns);
@@ -274,6 +300,10 @@ const WRITING: &str = "Sixteen channels are posted before a close. The cells are
 const EVENTS: &str = "\
 Open event, 16 posts and close, over the 4 ns a sample in which the windows were recorded: below 1 the calls keep up
 with the digitiser. `pulses`: one in every hundred samples. A rival's second number is the ratio of times, as above.";
+const COUNTING: &str = "\
+4,096 frames a call. A rival's second number is the ratio of times, as above. `digitiser` is the library's speed over
+the 250 million frames a second that the digitiser gives: above 1 the call keeps up with it. `quiet`: no channel is
+ever over; `busy`: each is in about half of the frames, and comes to be over in every fourth.";
 const CHECK: &str = "\
 A rival's second number is the ratio of times, as above. `read` loads the same bytes, 16 at a time, `memcpy` copies
 them. The digitiser's 16 samples every 4 ns, two bytes each, are 8.0 GB/s. The block of empty events has 3 KB.";

@@ -5,7 +5,8 @@ use second::cases::Side;
 /// A rival and the names of its calls in `peer.h`. Each gets slices with their own lengths, which is all that they ask.
 macro_rules! peer {
     ($rival:ident: $set_up:ident, $open_block:ident, $open_event:ident, $post:ident, $close:ident,
-     $finish:ident, $find:ident, $check:ident) => {
+     $close_with_scalers:ident, $finish:ident, $count:ident, $latch:ident, $reset:ident, $find:ident,
+     $check:ident) => {
         #[rustfmt::skip]
         extern "C" {
             fn $set_up(settings: *const u64, n: usize, state: *mut u64, m: usize) -> u32;
@@ -14,7 +15,12 @@ macro_rules! peer {
             fn $post(state: *mut u64, m: usize, store: *mut u16, s: usize, channel: u32, window: *const u16, n: usize)
                 -> u32;
             fn $close(state: *mut u64, m: usize, store: *const u16, s: usize, words: *mut u32, w: usize) -> u32;
+            fn $close_with_scalers(state: *mut u64, m: usize, store: *const u16, s: usize, words: *mut u32, w: usize)
+                -> u32;
             fn $finish(state: *mut u64, m: usize, words: *mut u32, w: usize) -> u64;
+            fn $count(state: *mut u64, m: usize, frames: *const u16, n: usize) -> u32;
+            fn $latch(state: *mut u64, m: usize) -> u32;
+            fn $reset(state: *mut u64, m: usize) -> u32;
             fn $find(settings: *const u64, n: usize, channel: u32, window: *const u16, len: usize, out: *mut u32,
                 o: usize) -> u32;
             fn $check(bytes: *const u8, n: usize) -> u64;
@@ -42,8 +48,21 @@ macro_rules! peer {
                 let (m, s, w) = (state.len(), store.len(), words.len());
                 unsafe { $close(state.as_mut_ptr(), m, store.as_ptr(), s, words.as_mut_ptr(), w) }
             }
+            fn close_with_scalers(&self, state: &mut [u64], store: &[u16], words: &mut [u32]) -> u32 {
+                let (m, s, w) = (state.len(), store.len(), words.len());
+                unsafe { $close_with_scalers(state.as_mut_ptr(), m, store.as_ptr(), s, words.as_mut_ptr(), w) }
+            }
             fn finish(&self, state: &mut [u64], words: &mut [u32]) -> u64 {
                 unsafe { $finish(state.as_mut_ptr(), state.len(), words.as_mut_ptr(), words.len()) }
+            }
+            fn count(&self, state: &mut [u64], frames: &[u16]) -> u32 {
+                unsafe { $count(state.as_mut_ptr(), state.len(), frames.as_ptr(), frames.len()) }
+            }
+            fn latch(&self, state: &mut [u64]) -> u32 {
+                unsafe { $latch(state.as_mut_ptr(), state.len()) }
+            }
+            fn reset(&self, state: &mut [u64]) -> u32 {
+                unsafe { $reset(state.as_mut_ptr(), state.len()) }
             }
             fn find(&self, settings: &[u64], channel: u32, window: &[u16], out: &mut [u32]) -> u32 {
                 let (n, len, o) = (settings.len(), window.len(), out.len());
@@ -65,9 +84,10 @@ macro_rules! peer {
     };
 }
 
-peer!(Plain: plain_set_up, plain_open_block, plain_open_event, plain_post, plain_close, plain_finish, plain_find,
-      plain_check);
-peer!(Sse2: sse2_set_up, sse2_open_block, sse2_open_event, sse2_post, sse2_close, sse2_finish, sse2_find, sse2_check);
+peer!(Plain: plain_set_up, plain_open_block, plain_open_event, plain_post, plain_close, plain_close_with_scalers,
+      plain_finish, plain_count, plain_latch, plain_reset, plain_find, plain_check);
+peer!(Sse2: sse2_set_up, sse2_open_block, sse2_open_event, sse2_post, sse2_close, sse2_close_with_scalers,
+      sse2_finish, sse2_count, sse2_latch, sse2_reset, sse2_find, sse2_check);
 
 extern "C" {
     fn sse2_read(bytes: *const u8, n: usize) -> u64;

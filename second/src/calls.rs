@@ -1,4 +1,4 @@
-//! The eleven calls of the C side, over slices of numbers, as the header lists
+//! The fifteen calls of the C side, over slices of numbers, as the header lists
 //! them.  Each answers the paper's number, 0 for accepted, or the number that the
 //! header says.  A refused call changes nothing that was lent, but for what set
 //! up, find and next were to fill: that is zeros then.
@@ -68,12 +68,28 @@ pub fn close(state: &mut [u64], store: &[u16], words: &mut [u32]) -> u32 {
     answer(with_state(state, |state| state.close(store, words)))
 }
 
+pub fn close_with_scalers(state: &mut [u64], store: &[u16], words: &mut [u32]) -> u32 {
+    answer(with_state(state, |state| state.close_with_scalers(store, words)))
+}
+
 /// Refusal x 2^32, or the block's length in words.
 pub fn finish(state: &mut [u64], words: &mut [u32]) -> u64 {
     match with_state(state, |state| state.finish(words)) {
         Ok(length) => length,
         Err(refusal) => u64::from(refusal.number()) << 32,
     }
+}
+
+pub fn count(state: &mut [u64], frames: &[u16]) -> u32 {
+    answer(with_state(state, |state| state.count(frames)))
+}
+
+pub fn latch(state: &mut [u64]) -> u32 {
+    answer(with_state(state, State::latch))
+}
+
+pub fn reset(state: &mut [u64]) -> u32 {
+    answer(with_state(state, State::reset))
 }
 
 /// Fills the first 28 of `out`: 1, 4, 5, 3, then 64 for fewer.

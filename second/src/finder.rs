@@ -51,8 +51,12 @@ pub fn holds_bad_sample(samples: &[u16]) -> bool {
 }
 
 /// "'Over' means V greater than the threshold."
+pub fn over(threshold: u32, sample: u16) -> bool {
+    amplitude(sample) > threshold
+}
+
 pub fn any_over(threshold: u32, samples: &[u16]) -> bool {
-    samples.iter().any(|&sample| amplitude(sample) > threshold)
+    samples.iter().any(|&sample| over(threshold, sample))
 }
 
 /// The pulses of a window under settings that are in range.

@@ -7,12 +7,14 @@ use crate::words::take;
 #[derive(Clone, Copy, Debug, PartialEq, Eq)]
 #[rustfmt::skip]
 pub enum Item {
-    /// An item of one word; a time word or a pair that stands alone.
+    /// An item of one word; a time word, a pair or a scaler that stands alone.
     Single(Word),
     /// Two time words: the 48-bit time.
     Clock { time: u64 },
     /// Type 4 or 6: "a raw item carries place and pair count".
     Raw { head: Word, place: usize, pairs: usize },
+    /// Type 12: where its words stand, and how many they are.
+    Scalers { place: usize, count: usize },
     /// Fillers that follow each other.
     Fillers { slot: u32, count: usize },
 }
@@ -24,6 +26,7 @@ impl Scan {
         let found = match word {
             Word::TimeLow { bits } => behind.time(words, bits),
             Word::Window { .. } | Word::PulseRaw { .. } => behind.raw(words, word)?,
+            Word::Scalers { .. } => behind.scalers(words)?,
             Word::Filler { slot } => behind.fillers(words, slot),
             _ => (Item::Single(word), behind),
         };
@@ -42,11 +45,23 @@ impl Scan {
 
     /// Behind a type 4 or 6: with all its pairs, or refused with one of them.
     fn raw(self, words: &[u32], head: Word) -> Result<(Item, Scan), Refused> {
+        let end = self.item_end(words)?;
+        Ok((Item::Raw { head, place: self.place, pairs: end.place - self.place }, end))
+    }
+
+    /// Behind a type 12: with all its words, or refused with one of them.
+    fn scalers(self, words: &[u32]) -> Result<(Item, Scan), Refused> {
+        let end = self.item_end(words)?;
+        Ok((Item::Scalers { place: self.place, count: end.place - self.place }, end))
+    }
+
+    /// Behind an item's first word: the scan behind its last.
+    fn item_end(self, words: &[u32]) -> Result<Scan, Refused> {
         let mut scan = self;
-        while scan.in_pairs(words) {
+        while scan.in_item(words) {
             (_, scan) = scan.read(words)?;
         }
-        Ok((Item::Raw { head, place: self.place, pairs: scan.place - self.place }, scan))
+        Ok(scan)
     }
 
     /// Behind a filler: with those that follow it.
@@ -72,6 +87,7 @@ impl Item {
                 let [kind, channel, pulse, third, ..] = word_record(head);
                 [kind, channel, pulse, third, place as u64, pairs as u64]
             }
+            Item::Scalers { place, count } => [17, 0, count as u64, 0, place as u64, 0],
             Item::Fillers { slot, count } => [14, slot.into(), count as u64, 0, 0, 0],
         }
     }
@@ -101,6 +117,8 @@ fn word_record(word: Word) -> [u64; Item::NUMBERS] {
         Word::Trailer { slot, words } => [13, slot, words, 0, 0, 0],
         Word::Filler { slot } => [14, slot, 1, 0, 0, 0],
         Word::Empty { slot } => [15, slot, 0, 0, 0, 0],
+        Word::Scalers { count } => [17, 0, count, 0, 0, 0],
+        Word::Scaler { value } => [18, value, 0, 0, 0, 0],
     };
     numbers.map(u64::from)
 }

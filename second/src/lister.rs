@@ -55,7 +55,7 @@ fn refused_line(refused: Refused) -> String {
 fn block_lines(accepted: &[Word]) -> String {
     let mut text = String::new();
     for (place, &word) in accepted.iter().enumerate() {
-        text += &word_line(word, accepted.get(place + 1).copied());
+        text += &word_line(word, &accepted[place + 1..]);
     }
     // "fill: how many, no line for none"
     let fillers = accepted.iter().filter(|word| matches!(word, Word::Filler { .. })).count();
@@ -65,7 +65,8 @@ fn block_lines(accepted: &[Word]) -> String {
     text
 }
 
-fn word_line(word: Word, next: Option<Word>) -> String {
+/// The line of a word and of those behind it that are said with it.
+fn word_line(word: Word, behind: &[Word]) -> String {
     let small = |name, fields: &[u32]| {
         line(name, &fields.iter().map(|&field| field.into()).collect::<Vec<u64>>())
     };
@@ -73,8 +74,8 @@ fn word_line(word: Word, next: Option<Word>) -> String {
         Word::Header { slot, number, events } => small("block", &[slot, number, events]),
         Word::Parameters { pl, nsb, nsa } => small("setup", &[pl, nsb, nsa]),
         Word::Event { number, .. } => small("event", &[number]),
-        Word::TimeLow { bits } => match next {
-            Some(Word::TimeHigh { bits: high }) => line("clock", &[clock(bits, high)]),
+        Word::TimeLow { bits } => match behind.first() {
+            Some(&Word::TimeHigh { bits: high }) => line("clock", &[clock(bits, high)]),
             _ => small("clock27", &[bits]),
         },
         Word::Window { channel, width } => small("window", &[channel, width]),
@@ -90,11 +91,23 @@ fn word_line(word: Word, next: Option<Word>) -> String {
         Word::Pedestal { channel, pulse, vmin, vpeak } => {
             small("ped", &[channel, pulse, vmin, vpeak])
         }
+        // "The lister prints `scalers` and the words in order."
+        Word::Scalers { .. } => small("scalers", &scalers(behind)),
         Word::Trailer { words, .. } => small("end", &[words]),
         Word::Empty { slot } => small("empty", &[slot]),
-        // Said with the first time word, and by the count of fillers.
-        Word::TimeHigh { .. } | Word::Filler { .. } => String::new(),
+        // Said with the first time word, with the type 12, and by the count of
+        // fillers.
+        Word::TimeHigh { .. } | Word::Scaler { .. } | Word::Filler { .. } => String::new(),
     }
+}
+
+/// The scaler words that come first.
+fn scalers(words: &[Word]) -> Vec<u32> {
+    let value = |word: &Word| match *word {
+        Word::Scaler { value } => Some(value),
+        _ => None,
+    };
+    words.iter().map_while(value).collect()
 }
 
 fn line(name: &str, fields: &[u64]) -> String {

@@ -3,6 +3,7 @@
 use second::cases::{
     limit_case, FinderCase, ReaderCase, SamplesCase, ScanCase, SequenceCase, SEED,
 };
+use second::writer::State;
 use second::{calls, lister};
 use std::io::{self, Read, Write};
 use std::process::ExitCode;
@@ -78,7 +79,7 @@ fn demo() -> String {
     let mut settings = [100u64; 26];
     settings[..10].copy_from_slice(&[7, 16, 20, 2, 5, 3, 5, 1, 2, 2]);
     let window = [10, 11, 12, 11, 10, 40, 120, 200, 180, 90, 60, 30, 12, 11, 10, 11];
-    let (mut state, mut store, mut words) = ([0u64; 34], [0u16; 256], [0u32; 16]);
+    let (mut state, mut store, mut words) = ([0; State::NUMBERS], [0u16; 256], [0u32; 16]);
     let answers = [
         calls::set_up(&settings, &mut state),
         calls::open_block(&mut state, &mut words, 1, 1),

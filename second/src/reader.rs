@@ -47,6 +47,10 @@ pub enum Word {
     Integral { channel: u32, pulse: u32, quality: u32, sum: u32 },
     Time { channel: u32, pulse: u32, quality: u32, coarse: u32, fine: u32 },
     Pedestal { channel: u32, pulse: u32, vmin: u32, vpeak: u32 },
+    /// Type 12, with how many scaler words follow.
+    Scalers { count: u32 },
+    /// One of them, whatever its bits.
+    Scaler { value: u32 },
     Trailer { slot: u32, words: u32 },
     Filler { slot: u32 },
     Empty { slot: u32 },
@@ -72,6 +76,8 @@ enum After {
     /// The trailer or a filler, and how many fillers may still come.  None come
     /// behind a module empty.
     Tail { fillers: u32 },
+    /// Type 12 or one of its words, and how many of them are still to come.
+    Scalers { words: u32 },
 }
 
 /// Where the reading of a block stands: before the word at `place`.
@@ -112,6 +118,7 @@ impl Scan {
             6 => After::Window { pairs: first, odd: second },
             7 => After::PulseRaw { pairs: first, any: second },
             8 => After::Tail { fillers: first },
+            9 => After::Scalers { words: first },
             _ => return None,
         };
         Some(Scan { place: place as usize, slot, left, after })
@@ -128,6 +135,7 @@ impl Scan {
             After::Window { pairs, odd } => (6, pairs, odd),
             After::PulseRaw { pairs, any } => (7, pairs, any),
             After::Tail { fillers } => (8, fillers, false),
+            After::Scalers { words } => (9, words, false),
         };
         [self.place as u32, self.slot, self.left, stage, first, second.into()]
     }
@@ -152,16 +160,21 @@ impl Scan {
         words.get(self.place).copied()
     }
 
-    /// Whether the raw item before goes on: type 6 with any continuation word
-    /// behind its first pair, allowed or not.
-    pub(crate) fn in_pairs(&self, words: &[u32]) -> bool {
+    /// Whether the item before goes on: type 6 with any continuation word behind
+    /// its first pair, allowed or not.
+    pub(crate) fn in_item(&self, words: &[u32]) -> bool {
         match self.after {
             After::Window { .. } => true,
             After::PulseRaw { any, .. } => {
                 !any || self.word(words).is_some_and(|word| tag(word).is_none())
             }
-            _ => false,
+            _ => self.in_scalers(),
         }
+    }
+
+    /// Whether the next word is a scaler.
+    fn in_scalers(&self) -> bool {
+        matches!(self.after, After::Scalers { words } if words > 0)
     }
 
     /// "It ends after the third [filler], at the input's end, or before a word
@@ -180,6 +193,10 @@ impl Scan {
             return Err(Refusal::Count);
         }
         let word = word.ok_or(Refusal::NoWord)?;
+        // "They carry no tag: the reader takes the stated count."
+        if self.in_scalers() {
+            return Ok(Word::Scaler { value: word });
+        }
         if !self.allows(tag(word)) {
             return Err(Refusal::Type);
         }
@@ -202,7 +219,12 @@ impl Scan {
         let event_or_trailer = matches!(tag, words::EVENT_HEADER | words::TRAILER);
         let item = matches!(
             tag,
-            words::WINDOW | words::PULSE_RAW | words::INTEGRAL | words::TIME | words::PEDESTAL
+            words::WINDOW
+                | words::PULSE_RAW
+                | words::INTEGRAL
+                | words::TIME
+                | words::PEDESTAL
+                | words::SCALERS
         );
         match self.after {
             After::Nothing => matches!(tag, words::BLOCK_HEADER | words::EMPTY),
@@ -212,6 +234,9 @@ impl Scan {
             After::Window { .. } => false,
             After::PulseRaw { any, .. } => any && (item || event_or_trailer),
             After::Tail { .. } => tag == words::FILLER,
+            // "12 for anything after the scalers but the next event header or the
+            // trailer"
+            After::Scalers { .. } => event_or_trailer,
         }
     }
 
@@ -263,6 +288,11 @@ impl Scan {
             Some(words::PEDESTAL) => {
                 let (vmin, vpeak) = (take(word, 20, 12), take(word, 11, 0));
                 Some(Word::Pedestal { channel, pulse, vmin, vpeak })
+            }
+            // "bits 26-6 zero", the count "0 to 63"
+            Some(words::SCALERS) => {
+                let good = take(word, 26, 6) == 0;
+                good.then_some(Word::Scalers { count: take(word, 5, 0) })
             }
             // "Only undefined bits of 14 and 15 are ignored."
             Some(words::EMPTY) => Some(Word::Empty { slot }),
@@ -332,6 +362,8 @@ impl Scan {
             (Word::Pair { second, .. }, After::PulseRaw { pairs, .. }) => {
                 After::PulseRaw { pairs: second.map_or(0, |_| pairs - 1), any: true }
             }
+            (Word::Scalers { count }, _) => After::Scalers { words: count },
+            (Word::Scaler { .. }, After::Scalers { words }) => After::Scalers { words: words - 1 },
             (Word::Trailer { .. }, _) => After::Tail { fillers: MOST_FILLERS },
             (Word::Filler { .. }, After::Tail { fillers }) => After::Tail { fillers: fillers - 1 },
             // "Type 14 in place of a header answers 'module empty', one word read."

@@ -1,4 +1,4 @@
-//! The sixteen refusals of the paper, each with its number, and the one that
+//! The refusals of documents 01 and 02, each with its number, and the one that
 //! only the C calls give.
 
 #[derive(Clone, Copy, Debug, PartialEq, Eq)]
@@ -35,6 +35,8 @@ pub enum Refusal {
     Slot = 15,
     /// 16: byte input of a wrong length.
     Bytes = 16,
+    /// 19: frame data not a multiple of sixteen.
+    Frames = 19,
     /// 64: an array of numbers that is not as long as the header says, or that is
     /// no scan.
     Array = 64,

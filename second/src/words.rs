@@ -11,6 +11,7 @@ pub const PULSE_RAW: u32 = 6;
 pub const INTEGRAL: u32 = 7;
 pub const TIME: u32 = 8;
 pub const PEDESTAL: u32 = 10;
+pub const SCALERS: u32 = 12;
 pub const EMPTY: u32 = 14;
 pub const FILLER: u32 = 15;
 
@@ -94,6 +95,11 @@ pub fn pedestal(channel: u32, number: u32, pulse: &Pulse) -> u32 {
 
 fn of_pulse(tag: u32, channel: u32, number: u32) -> u32 {
     defining(tag) | put(channel, 26, 23) | put(number, 22, 21)
+}
+
+/// Ticket 1: "type 12 (bits 26-6 zero, 5-0 = 18)", and with another count.
+pub fn scalers(count: u32) -> u32 {
+    defining(SCALERS) | put(count, 5, 0)
 }
 
 pub fn empty(slot: u32) -> u32 {

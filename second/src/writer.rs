@@ -1,10 +1,13 @@
-//! "One event, one store": the state and the six calls that write a block.
+//! "One event, one store": the state, the calls that write a block, and those of
+//! ticket 1 that count.
 //!
 //! Each call looks for its refusals in the paper's order, "10, 7, 8, 4, 5, 6,
-//! 2, 3, 9", and changes something only when none is left.
+//! 2, 3, 9", a call that counts for 10, 3, 19, and changes something only when
+//! none is left.
 
 use crate::finder::{any_over, holds_bad_sample, pulses, Pulse};
 use crate::refusal::Refusal;
+use crate::scalers::Scalers;
 use crate::settings::{Settings, CHANNELS};
 use crate::words;
 
@@ -13,9 +16,10 @@ pub const LARGEST_EVENTS: u32 = 255;
 pub const LARGEST_EVENT: u32 = 4_194_303;
 pub const LARGEST_TIME: u64 = (1 << 48) - 1;
 
-/// "at most 2 + 12,051 x events closed"
+/// "at most 2 + 12,051 x events closed"; by ticket 1 "an event is then at most
+/// 12,070 words in the state's bound".
 const HEADER_AT_MOST: u64 = 2;
-const EVENT_AT_MOST: u64 = 12_051;
+const EVENT_AT_MOST: u64 = 12_070;
 
 #[derive(Clone, Copy, Debug, PartialEq, Eq)]
 pub enum Phase {
@@ -40,13 +44,16 @@ pub struct State {
     pub closed: u32,
     /// Words written in this block.
     pub words: u64,
+    /// Ticket 1: "the state holds all this beside 01's fields, in every phase and
+    /// kept through idle".
+    pub scalers: Scalers,
     pub settings: Settings,
 }
 
 /// "Set up can give only 1, and returns no state."
 pub fn set_up(settings: Settings) -> Result<State, Refusal> {
     if settings.in_range() {
-        Ok(State::idle(settings))
+        Ok(State::idle(settings, Scalers::default()))
     } else {
         Err(Refusal::Setting)
     }
@@ -54,9 +61,9 @@ pub fn set_up(settings: Settings) -> Result<State, Refusal> {
 
 impl State {
     /// How many numbers the C side passes.
-    pub const NUMBERS: usize = 8 + Settings::NUMBERS;
+    pub const NUMBERS: usize = 8 + Scalers::NUMBERS + Settings::NUMBERS;
 
-    fn idle(settings: Settings) -> State {
+    fn idle(settings: Settings, scalers: Scalers) -> State {
         State {
             phase: Phase::Idle,
             block: 0,
@@ -66,6 +73,7 @@ impl State {
             marks: 0,
             closed: 0,
             words: 0,
+            scalers,
             settings,
         }
     }
@@ -73,9 +81,10 @@ impl State {
     /// The state's ranges; breaking one is refusal 10.
     pub fn in_range(&self) -> bool {
         self.settings.in_range()
+            && self.scalers.in_range()
             && match self.phase {
-                // "Idle: all else is zero."
-                Phase::Idle => *self == State::idle(self.settings.clone()),
+                // "Idle: all else is zero", of 01's fields.
+                Phase::Idle => *self == State::idle(self.settings.clone(), self.scalers.clone()),
                 // "events closed at most the events to come"
                 Phase::Block => {
                     self.block_in_range() && self.closed <= self.events && self.no_event()
@@ -90,8 +99,8 @@ impl State {
     }
 
     /// "block number and events to come within 8's ranges; [...] words at least
-    /// the header words plus, for each event closed, its header and time words,
-    /// and at most 2 + 12,051 x events closed"
+    /// the header words plus, for each event closed, its header and time words",
+    /// and at most 2 + 12,070 x events closed
     fn block_in_range(&self) -> bool {
         let closed = u64::from(self.closed);
         let least = self.header_words() + closed * (1 + u64::from(self.settings.times));
@@ -146,6 +155,7 @@ impl State {
         self.event = number;
         self.time = time;
         self.marks = 0;
+        self.scalers.trigger();
         Ok(())
     }
 
@@ -179,6 +189,22 @@ impl State {
     /// words, then words for posted channels only, after the words already
     /// there; the rest of the buffer stays."
     pub fn close(&mut self, store: &[u16], words: &mut [u32]) -> Result<(), Refusal> {
+        self.close_ending_with(store, words, &[])
+    }
+
+    /// Ticket 1: "On request a closed event ends with type 12 [...] and the latched
+    /// words."  The refusals are those of closing; 9 counts these words too.
+    pub fn close_with_scalers(&mut self, store: &[u16], words: &mut [u32]) -> Result<(), Refusal> {
+        let end = self.scalers.words();
+        self.close_ending_with(store, words, &end)
+    }
+
+    fn close_ending_with(
+        &mut self,
+        store: &[u16],
+        words: &mut [u32],
+        end: &[u32],
+    ) -> Result<(), Refusal> {
         self.ranges()?;
         self.turn(self.phase == Phase::Event)?;
         self.store_length(store)?;
@@ -189,7 +215,8 @@ impl State {
         if posted.iter().any(|(_, row)| holds_bad_sample(row)) {
             return Err(Refusal::Sample);
         }
-        let new = self.event_words(&posted);
+        let mut new = self.event_words(&posted);
+        new.extend(end);
         self.words = self.append(words, &new)?;
         self.phase = Phase::Block;
         self.event = 0;
@@ -213,8 +240,36 @@ impl State {
         let length = counted.next_multiple_of(s.multiple.into());
         new.extend((counted..length).map(|_| words::filler(s.slot)));
         self.append(words, &new)?;
-        *self = State::idle(self.settings.clone());
+        *self = State::idle(self.settings.clone(), self.scalers.clone());
         Ok(length)
+    }
+
+    /// Counting frames: 10, 3, 19.
+    pub fn count(&mut self, frames: &[u16]) -> Result<(), Refusal> {
+        self.ranges()?;
+        // all samples, those of a frame that is not whole too
+        if holds_bad_sample(frames) {
+            return Err(Refusal::Sample);
+        }
+        if !frames.len().is_multiple_of(CHANNELS) {
+            return Err(Refusal::Frames);
+        }
+        self.scalers.count(&self.settings.thresholds, frames);
+        Ok(())
+    }
+
+    /// Latching the counts: 10.
+    pub fn latch(&mut self) -> Result<(), Refusal> {
+        self.ranges()?;
+        self.scalers.latch();
+        Ok(())
+    }
+
+    /// Resetting the running counts: 10.
+    pub fn reset(&mut self) -> Result<(), Refusal> {
+        self.ranges()?;
+        self.scalers.reset();
+        Ok(())
     }
 
     fn posted(&self, channel: usize) -> bool {
@@ -265,10 +320,11 @@ impl State {
         new
     }
 
-    /// The state that 34 numbers stand for; `None` for another count of
+    /// The state that 72 numbers stand for; `None` for another count of
     /// numbers, or for a number that its field cannot hold.
     pub fn decode(numbers: &[u64]) -> Option<State> {
-        let (plain, settings) = numbers.split_at_checked(8)?;
+        let (plain, rest) = numbers.split_at_checked(8)?;
+        let (scalers, settings) = rest.split_at_checked(Scalers::NUMBERS)?;
         let narrow = |place: usize| u32::try_from(plain[place]).ok();
         Some(State {
             phase: match plain[0] {
@@ -284,13 +340,15 @@ impl State {
             marks: u16::try_from(plain[5]).ok()?,
             closed: narrow(6)?,
             words: plain[7],
+            scalers: Scalers::decode(scalers)?,
             settings: Settings::decode(settings)?,
         })
     }
 
     pub fn encode(&self) -> [u64; Self::NUMBERS] {
         let mut numbers = [0; Self::NUMBERS];
-        let (plain, settings) = numbers.split_at_mut(8);
+        let (plain, rest) = numbers.split_at_mut(8);
+        let (scalers, settings) = rest.split_at_mut(Scalers::NUMBERS);
         plain.copy_from_slice(&[
             match self.phase {
                 Phase::Idle => 0,
@@ -305,6 +363,7 @@ impl State {
             self.closed.into(),
             self.words,
         ]);
+        scalers.copy_from_slice(&self.scalers.encode());
         settings.copy_from_slice(&self.settings.encode());
         numbers
     }

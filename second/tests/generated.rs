@@ -6,6 +6,7 @@ use second::cases::{
 };
 use second::lister::list;
 use second::reader::words_of_bytes;
+use second::writer::State;
 use std::collections::BTreeMap;
 
 type Met = BTreeMap<u64, u32>;
@@ -56,10 +57,39 @@ fn is_call(step: &Step) -> bool {
 /// The bench behind a refused call: only set up fills in zeros, where it is lent a
 /// state of the right length.
 fn refused(step: &Step, mut before: Bench) -> Bench {
-    if matches!(step, Step::SetUp { .. }) && before.state.len() == 34 {
+    if matches!(step, Step::SetUp { .. }) && before.state.len() == State::NUMBERS {
         before.state.fill(0);
     }
     before
+}
+
+/// What an accepted call does to the counts: running, part and over, latched.
+fn counted(step: &Step, before: &Bench, behind: &Bench) {
+    let (old, new) = (&before.state[8..46], &behind.state[8..46]);
+    let expected = match step {
+        Step::SetUp { .. } => vec![0; 38],
+        Step::Latch => [&old[..20], &old[..18]].concat(),
+        Step::Reset => [&[0; 19], &old[19..]].concat(),
+        Step::OpenEvent { .. } => {
+            let triggers = (old[17] + 1) % (1 << 32);
+            [&old[..17], &[triggers], &old[18..]].concat()
+        }
+        Step::Count { frames } => counted_in_parts(before, frames),
+        _ => old.to_vec(),
+    };
+    assert_eq!(new, expected, "{step:?}");
+}
+
+/// The counts behind these frames, first all but the last and then that one; and
+/// what the timer and the part group must be.
+fn counted_in_parts(before: &Bench, frames: &[u16]) -> Vec<u64> {
+    let mut state = before.state.clone();
+    let (front, last) = frames.split_at(frames.len().saturating_sub(16));
+    assert_eq!(Second.count(&mut state, front) + Second.count(&mut state, last), 0);
+    let whole = before.state[26] + frames.len() as u64 / 16;
+    assert_eq!(state[24], (before.state[24] + whole / 512) % (1 << 32));
+    assert_eq!(state[26], whole % 512);
+    state[8..46].to_vec()
 }
 
 /// What a block holds may be read again, unless the state was forged.
@@ -90,7 +120,10 @@ fn sequence_cases() {
             *met.entry(refusal).or_default() += 1;
             if refusal != 0 {
                 assert!(bench == refused(step, before), "what a refused call changes: {case}");
-            } else if finish {
+                continue;
+            }
+            counted(step, &before, &bench);
+            if finish {
                 blocks += 1;
                 finished_block_reads(&case, &bench, answer);
             }
@@ -98,7 +131,7 @@ fn sequence_cases() {
     }
     println!("{blocks} whole blocks");
     assert!(blocks > 2_000);
-    meets(&met, &[0, 1, 2, 3, 4, 5, 6, 7, 8, 9, 10]);
+    meets(&met, &[0, 1, 2, 3, 4, 5, 6, 7, 8, 9, 10, 19]);
 }
 
 #[test]
@@ -145,7 +178,7 @@ fn lines_of_records(words: &[u32]) -> (String, u64) {
     }
 }
 
-/// A record's line, and the lines of its pairs.
+/// A record's line, and the lines of its pairs or the cells of its scalers.
 fn lines(words: &[u32], record: [u64; 6]) -> String {
     let [kind, a, b, c, d, e] = record;
     match kind {
@@ -162,8 +195,15 @@ fn lines(words: &[u32], record: [u64; 6]) -> String {
         13 => format!("end\t{b}\n"),
         14 => format!("fill\t{b}\n"),
         15 => format!("empty\t{a}\n"),
+        17 => scalers_line(words, d as usize, b as usize),
         _ => panic!("no scan that next moves gives {record:?}"),
     }
+}
+
+fn scalers_line(words: &[u32], place: usize, count: usize) -> String {
+    let cell = |word: &u32| format!("\t{word}");
+    let cells: String = words[place..place + count].iter().map(cell).collect();
+    format!("scalers{cells}\n")
 }
 
 fn pair_lines(words: &[u32], place: u32, pairs: u32) -> String {
@@ -195,12 +235,13 @@ fn records_and_lines() {
             assert_eq!(listed, text, "{case}");
             continue;
         }
-        // Of a raw item that breaks, the lister has the lines before the break.
+        // Of a raw item or of scalers that break, the lister has what stands before
+        // the break.
         let last = format!("refused\t{}\t{}\n", answer >> 32, answer & 0xFFFF_FFFF);
         let rest = listed.strip_prefix(&text).and_then(|rest| rest.strip_suffix(&last));
         let rest = rest.unwrap_or_else(|| panic!("{case}"));
-        let raw = rest.starts_with("window\t") || rest.starts_with("pulse\t");
-        assert!(rest.is_empty() || raw, "{case}");
+        let long = ["window\t", "pulse\t", "scalers"].iter().any(|name| rest.starts_with(name));
+        assert!(rest.is_empty() || long, "{case}");
         assert!(rest.lines().skip(1).all(|line| line.starts_with("pair\t")), "{case}");
     }
     meets(&refusals, &[0, 11, 12, 13, 14, 15]);

@@ -1,11 +1,12 @@
-//! What document 01 says, run: run A, runs b to i, and refusals 1 to 16; and what
-//! the header says of the calls.
+//! What document 01 says, run: run A, runs b to i, and refusals 1 to 16; what ticket
+//! 1 of document 02 says; and what the header says of the calls.
 
 use second::calls;
 use second::finder::{find, Pulse};
 use second::lister::list;
 use second::reader::{check, words_of_bytes, LIMIT};
 use second::refusal::Refusal;
+use second::scalers::Scalers;
 use second::settings::Settings;
 use second::words;
 use second::writer::{set_up, State};
@@ -261,6 +262,14 @@ fn limits_of_the_window() {
         state.close(&store, &mut words).unwrap();
     }
     assert_eq!(state.finish(&mut words), Ok(2 + 3 * 12_003 + 1));
+    // With scalers each of them is 19 words longer, within 12,070; a filler.
+    state.open_block(&mut words, 1_023, 3).unwrap();
+    for event in 0..3 {
+        state.open_event(event, (1 << 48) - 1).unwrap();
+        (0..16).for_each(|channel| state.post(&mut store, channel, &window).unwrap());
+        state.close_with_scalers(&store, &mut words).unwrap();
+    }
+    assert_eq!(state.finish(&mut words), Ok(2 + 3 * 12_022 + 1 + 1));
 }
 
 #[test]
@@ -335,7 +344,7 @@ fn refusal_1_settings() {
         (9, &[0, 3, 5]),
         (25, &[4_096, 1 << 32]),
     ];
-    let mut state = [9; 34];
+    let mut state = [9; 72];
     for (place, values) in bad {
         for &value in values {
             let mut numbers = good;
@@ -356,11 +365,11 @@ fn refusal_1_settings() {
 #[test]
 fn refused_set_up() {
     let good = settings().encode();
-    let mut state = [9; 34];
+    let mut state = [9; 72];
     assert_eq!(calls::set_up(&good[..25], &mut state), 1);
-    assert_eq!(state, [0; 34]);
+    assert_eq!(state, [0; 72]);
     assert_eq!(calls::open_block(&mut state, &mut [0; 9], 1, 1), 10);
-    for length in [0, 33, 35] {
+    for length in [0, 34, 71, 73] {
         let mut other = vec![9; length];
         assert_eq!(calls::set_up(&good[..25], &mut other), 1, "1 before 64");
         assert_eq!(calls::set_up(&good, &mut other), 64);
@@ -391,7 +400,7 @@ fn refusals_of_the_finder_in_order() {
 
 /// A state in an event, with channel 3 posted, as numbers.
 fn in_event() -> (Vec<u64>, Vec<u16>, Vec<u32>) {
-    let (mut state, mut store, mut words) = (vec![0; 34], vec![0; 256], vec![0; 64]);
+    let (mut state, mut store, mut words) = (vec![0; 72], vec![0; 256], vec![0; 64]);
     assert_eq!(calls::set_up(&settings().encode(), &mut state), 0);
     assert_eq!(calls::open_block(&mut state, &mut words, 1, 1), 0);
     assert_eq!(calls::open_event(&mut state, 9, 256), 0);
@@ -440,8 +449,10 @@ fn refusals_7_and_8() {
     assert_eq!(calls::open_event(&mut state, 4_194_303, (1 << 48) - 1), 0);
 }
 
-/// A place and a number that no state in an event has there: phase, block number, events, event, time, marks, closed, words, settings.
-const FORGED: [(usize, u64); 20] = [
+/// A place and a number that no state in an event has there: phase, block number,
+/// events, event, time, marks, closed, words; counts, timer, triggers, part, over,
+/// latched; settings.
+const FORGED: [(usize, u64); 32] = [
     (0, 0),
     (0, 1),
     (0, 3),
@@ -455,13 +466,25 @@ const FORGED: [(usize, u64); 20] = [
     (7, 1),
     (7, 3),
     (7, u64::MAX),
-    (8, 5),
-    (9, 501),
-    (15, 2),
-    (33, 4_096),
+    (8, 1 << 32),
+    (23, u64::MAX),
+    (24, 1 << 32),
+    (25, 1 << 32),
+    (26, 512),
+    (26, 1 << 32),
+    (26, u64::MAX),
+    (27, 1 << 16),
+    (27, (1 << 16) + 1),
+    (28, 1 << 32),
+    (44, 1 << 32),
+    (45, 1 << 32),
+    (46, 5),
+    (47, 501),
+    (53, 2),
+    (71, 4_096),
     (1, 1 << 32),
     (6, 1 << 32),
-    (33, 1 << 32),
+    (71, 1 << 32),
 ];
 
 #[test]
@@ -475,18 +498,28 @@ fn refusal_10_forged_states() {
     for change in FORGED {
         assert_eq!(forge(&[change]), 10, "{change:?}");
     }
-    // Events closed 1 of 2: 2 + 3 words at least, 2 + 12,051 at most.
-    for (words_written, answer) in [(4, 10), (5, 0), (12_053, 9), (12_054, 10)] {
+    // Events closed 1 of 2: 2 + 3 words at least, 2 + 12,070 at most.
+    for (words_written, answer) in [(4, 10), (5, 0), (12_072, 9), (12_073, 10)] {
         assert_eq!(forge(&[(2, 2), (6, 1), (7, words_written)]), answer);
     }
-    assert_eq!(forge(&[(15, 0), (7, 1)]), 0);
-    assert_eq!(calls::open_event(&mut [0; 33], 0, 0), 10);
+    assert_eq!(forge(&[(53, 0), (7, 1)]), 0);
+    // The greatest of each count.
+    for place in (8..26).chain(28..46) {
+        assert_eq!(forge(&[(place, u32::MAX.into()), (26, 511), (27, 0xFFFF)]), 0);
+    }
     assert_eq!(calls::open_event(&mut [0; 34], 0, 0), 10);
+    assert_eq!(calls::open_event(&mut [0; 72], 0, 0), 10);
     let idle = set_up(settings()).unwrap();
     for place in 1..8 {
         let mut numbers = idle.encode();
         numbers[place] = 1;
         assert_eq!(calls::open_block(&mut numbers, &mut [0; 9], 1, 1), 10);
+    }
+    // "Idle: all else is zero" is of document 01's fields.
+    for place in 8..46 {
+        let mut numbers = idle.encode();
+        numbers[place] = 1;
+        assert_eq!(calls::open_block(&mut numbers, &mut [0; 9], 1, 1), 0);
     }
     assert_eq!(State::decode(&good).map(|state| state.encode().to_vec()), Some(good));
 }
@@ -519,7 +552,7 @@ fn refusals_11_to_15() {
     assert_eq!(changed(4, 0x00FFFFF8), 10);
     assert_eq!(changed(4, 0x98000000), refused(12, 4));
     assert_eq!(changed(5, 0x00000000), refused(12, 5));
-    assert_eq!(changed(5, 0xE0000000), refused(12, 5), "type 12");
+    assert_eq!(changed(5, 0xE8000000), refused(12, 5), "type 13");
     assert_eq!(changed(5, 0x91400009), refused(14, 5), "event beyond the stated");
     assert_eq!(changed(6, 0xC18081B4), refused(13, 6));
     assert_eq!(changed(8, 0x8940000A), refused(14, 8));
@@ -540,6 +573,9 @@ fn refusal_14_at_the_limit() {
     // what follows a trailer.
     let mut expected = vec![limit, refused(11, limit - 1)];
     expected.extend([refused(14, limit); 14]);
+    // The same of scalers and their words.
+    expected.extend([refused(14, limit); 6]);
+    expected.extend([limit, refused(11, limit - 1)]);
     expected.extend([limit + 1, limit + 3, refused(15, limit), refused(15, limit + 1), limit]);
     assert_eq!(answers, expected);
 }
@@ -567,6 +603,331 @@ fn refusal_16_and_the_lister() {
     assert_eq!(list(&bytes(&other_slot)), format!("{LINES_A}refused\t15\t10\n"));
     let fourth = [&WORDS_A[..9], &[0xF9400000; 4]].concat();
     assert!(list(&bytes(&fourth)).ends_with("end\t9\nfill\t3\nrefused\t12\t0\n"));
+}
+
+/// A state that was just set up, all thresholds 100.
+fn counter() -> State {
+    set_up(settings()).unwrap()
+}
+
+/// A frame with these channels at 101, the others at 100.
+fn frame(over: &[usize]) -> [u16; 16] {
+    std::array::from_fn(|channel| if over.contains(&channel) { 101 } else { 100 })
+}
+
+/// The running counts of channels 0 and 3 behind these frames, each in its own call.
+fn counted(frames: &[[u16; 16]]) -> (u32, u32) {
+    let mut state = counter();
+    frames.iter().for_each(|frame| state.count(frame).unwrap());
+    let mut whole = counter();
+    whole.count(&frames.concat()).unwrap();
+    assert_eq!(state, whole, "frames by one call or by many");
+    (state.scalers.running[0], state.scalers.running[3])
+}
+
+/// "each channel counts the frames where it is over and was not in the frame before,
+/// the first frame counting as if all had been under"
+#[test]
+fn channels_count_edges() {
+    let (none, first, third) = (frame(&[]), frame(&[0]), frame(&[3]));
+    let both = frame(&[0, 3]);
+    assert_eq!(counted(&[]), (0, 0));
+    assert_eq!(counted(&[none]), (0, 0), "100 at threshold 100");
+    assert_eq!(counted(&[both]), (1, 1));
+    assert_eq!(counted(&[both, both, both]), (1, 1), "it stays over");
+    assert_eq!(counted(&[first, third, first, third]), (2, 2));
+    assert_eq!(counted(&[first, both, none, both]), (2, 2));
+    let mut flagged = none;
+    flagged[0] = 0x1000 | 100;
+    flagged[3] = 0x1000 | 101;
+    assert_eq!(counted(&[flagged]), (0, 1), "bit 12 is no amplitude");
+    let mut state = set_up(Settings { thresholds: [4_095; 16], ..settings() }).unwrap();
+    state.count(&[8_191; 32]).unwrap();
+    assert_eq!(state.scalers, Scalers { part: 2, ..Scalers::default() });
+}
+
+/// "A timer counts whole groups of 512 frames."
+#[test]
+fn timer_counts_groups() {
+    let mut state = counter();
+    for (frames, timer, part) in [(511, 0, 511), (1, 1, 0), (0, 1, 0), (1_025, 3, 1), (511, 4, 0)] {
+        state.count(&vec![0; 16 * frames]).unwrap();
+        assert_eq!((state.scalers.running[16], state.scalers.part), (timer, part));
+    }
+}
+
+/// "a trigger counter counts opened events": those that were refused are not.
+#[test]
+fn triggers_count_opened_events() {
+    let (mut state, mut words) = (counter(), [0; 99]);
+    let store = [0; 256];
+    assert_eq!(state.open_event(1, 1), Err(Refusal::OutOfTurn));
+    state.open_block(&mut words, 1, 2).unwrap();
+    for triggers in 1..=2 {
+        assert_eq!(state.open_event(4_194_304, 1), Err(Refusal::Number));
+        state.open_event(1, 1).unwrap();
+        assert_eq!(state.open_event(1, 1), Err(Refusal::OutOfTurn));
+        assert_eq!(state.scalers, Scalers { running: running(triggers), ..Scalers::default() });
+        state.close(&store, &mut words).unwrap();
+    }
+    assert_eq!(state.open_event(1, 1), Err(Refusal::OutOfTurn));
+    assert_eq!(state.scalers.running, running(2));
+}
+
+/// No counts but those of triggers.
+fn running(triggers: u32) -> [u32; 18] {
+    let mut running = [0; 18];
+    running[17] = triggers;
+    running
+}
+
+/// "All wrap at 2^32."
+#[test]
+fn counts_wrap() {
+    let (mut state, mut words) = (counter(), [0; 99]);
+    state.scalers.running = [u32::MAX; 18];
+    state.scalers.part = 511;
+    state.scalers.over = 1;
+    state.open_block(&mut words, 1, 1).unwrap();
+    state.open_event(1, 1).unwrap();
+    state.count(&[101; 16]).unwrap();
+    let mut expected = [0; 18];
+    expected[0] = u32::MAX; // it was over before
+    assert_eq!(state.scalers.running, expected);
+    assert_eq!((state.scalers.part, state.scalers.over), (0, 0xFFFF));
+}
+
+/// "Latch copies eighteen counts at once; reset zeroes the running counts and the
+/// timer's part group, not the latched ones, which are zero before any latch."
+#[test]
+fn latch_and_reset() {
+    let mut state = counter();
+    state.scalers.running = std::array::from_fn(|count| 100 + count as u32);
+    (state.scalers.part, state.scalers.over) = (7, 8);
+    let before = state.clone();
+    assert_eq!(state.scalers.latched, [0; 18]);
+    state.latch().unwrap();
+    let latched = before.scalers.running;
+    let scalers = Scalers { latched, ..before.scalers.clone() };
+    assert_eq!(state, State { scalers, ..before.clone() });
+    state.reset().unwrap();
+    let scalers = Scalers { over: 8, latched, ..Scalers::default() };
+    assert_eq!(state, State { scalers, ..before });
+    // Channel 3 was over before the reset, and so this frame is no edge of it.
+    state.count(&frame(&[3, 4])).unwrap();
+    assert_eq!(state.scalers.running[..5], [0, 0, 0, 0, 1]);
+    assert_eq!((state.scalers.part, state.scalers.latched), (1, latched));
+}
+
+/// "The state holds all this beside 01's fields, in every phase and kept through
+/// idle."
+#[test]
+fn counts_are_kept() {
+    let (mut state, mut store, mut words) = in_event();
+    let counts: Vec<u64> = (1..=38).collect();
+    state[8..46].copy_from_slice(&counts);
+    let kept = |state: &[u64]| assert_eq!(state[8..46], counts);
+    assert_eq!(calls::post(&mut state, &mut store, 4, &RUN_A), 0);
+    kept(&state);
+    assert_eq!(calls::close_with_scalers(&mut state, &store, &mut words), 0);
+    kept(&state);
+    assert_eq!(calls::finish(&mut state, &mut words), 32);
+    kept(&state);
+    assert_eq!(state[..8], [0; 8]);
+    assert_eq!(calls::open_block(&mut state, &mut words, 1, 1), 0);
+    kept(&state);
+    // "set up makes it zero"
+    assert_eq!(calls::set_up(&settings().encode(), &mut state), 0);
+    assert_eq!(state[..46], [0; 46]);
+}
+
+/// 10, then 3 for any sample, those of a frame that is not whole too, then 19;
+/// refused, none of the frames counts.  The calls are allowed in every phase.
+#[test]
+fn refusals_of_counting() {
+    let (event, store, mut words) = in_event();
+    let mut block = event.clone();
+    assert_eq!(calls::close(&mut block, &store, &mut words), 0);
+    let mut idle = block.clone();
+    assert_eq!(calls::finish(&mut idle, &mut words), 10);
+    for good in [event, block, idle] {
+        let mut state = good.clone();
+        let bad = [vec![101; 16], vec![8_192; 1]].concat();
+        assert_eq!(calls::count(&mut state, &bad), 3, "3 before 19");
+        assert_eq!(calls::count(&mut state, &[vec![101; 31], vec![8_192]].concat()), 3);
+        for length in [1, 15, 17, 31, 16 * 512 + 8] {
+            assert_eq!(calls::count(&mut state, &vec![101; length]), 19);
+        }
+        assert_eq!(state, good);
+        assert_eq!(calls::count(&mut state, &[]), 0, "no frames change nothing");
+        assert_eq!(state, good);
+        state[26] = 512;
+        let forged = state.clone();
+        assert_eq!(calls::count(&mut state, &bad), 10, "10 before 3");
+        assert_eq!(calls::latch(&mut state), 10);
+        assert_eq!(calls::reset(&mut state), 10);
+        assert_eq!(state, forged);
+        state[26] = 511;
+        assert_eq!(calls::count(&mut state, &[101; 16]), 0);
+        assert_eq!((state[8], state[24], state[26], state[27]), (1, 1, 0, 0xFFFF));
+        assert_eq!(calls::latch(&mut state), 0);
+        assert_eq!(calls::reset(&mut state), 0);
+        assert_eq!((state[8], state[24], state[28], state[44]), (0, 0, 1, 1));
+    }
+    assert_eq!(calls::count(&mut [], &[]), 10);
+    assert_eq!(calls::latch(&mut [0; 34]), 10);
+    assert_eq!(calls::reset(&mut [0; 72]), 10);
+}
+
+/// "On request a closed event ends with type 12 (bits 26-6 zero, 5-0 = 18) and the
+/// latched words: channels 0 to 15, timer, triggers."
+#[test]
+fn event_with_scalers() {
+    let (mut state, store, mut words) = in_event();
+    let latched: Vec<u64> = (0..18).map(|count| u64::from(u32::MAX) - count).collect();
+    state[28..46].copy_from_slice(&latched);
+    let mut without = (state.clone(), words.clone());
+    assert_eq!(calls::close(&mut without.0, &store, &mut without.1), 0);
+    let before = state.clone();
+    assert_eq!(calls::close_with_scalers(&mut state, &store[..255], &mut []), 2);
+    assert_eq!(calls::close_with_scalers(&mut state, &[8_192; 256], &mut []), 3);
+    assert_eq!(calls::close_with_scalers(&mut state, &store, &mut words[..26]), 9);
+    assert_eq!((&state, words[2..].iter().max()), (&before, Some(&0)));
+    assert_eq!(calls::close_with_scalers(&mut state, &store, &mut words[..27]), 0);
+    // Its other words are as they would be, and so is the rest of the state.
+    assert_eq!(words[..8], without.1[..8]);
+    without.0[7] += 19;
+    assert_eq!(state, without.0);
+    let mut expected = vec![0xE0000012];
+    expected.extend(latched.iter().map(|&count| count as u32));
+    assert_eq!(words[8..27], expected);
+    assert_eq!(words[27..], [0; 37]);
+    assert_eq!(calls::close_with_scalers(&mut state, &store, &mut words), 7);
+    assert_eq!(calls::finish(&mut state, &mut words), 28);
+    assert_eq!(check(&bytes(&words[..28])), 28);
+}
+
+/// A block of two events, slot 5, the first of which holds these items.
+fn two_events(items: &[u32]) -> Vec<u32> {
+    let mut words = vec![words::block_header(5, 0, 2), words::event_header(5, 0)];
+    words.extend(items);
+    words.push(words::event_header(5, 1));
+    words.push(words::trailer(5, words.len() as u32 + 1));
+    words
+}
+
+fn check_items(items: &[u32]) -> u64 {
+    check(&bytes(&two_events(items)))
+}
+
+/// "They carry no tag: the reader takes the stated count, 0 to 63."
+#[test]
+fn scalers_are_read() {
+    let alike = [words::event_header(5, 1), words::trailer(5, 4), 0xF9400000, 0xF1400000, 0];
+    for count in [0, 1, 2, 18, 63] {
+        let words = alike.iter().cycle().take(count);
+        let items: Vec<u32> = [words::scalers(count as u32)].iter().chain(words).copied().collect();
+        let place = items.len() as u64 + 2;
+        assert_eq!(check_items(&items), place + 2);
+        // "12 for anything after the scalers but the next event header or the trailer"
+        let behind = [0, 0xB9800000, 0xE0000000, 0xA1800001, 0x98000100, 0xF9400000, 0xF1400000];
+        for word in behind {
+            assert_eq!(check_items(&[&items[..], &[word]].concat()), refused(12, place));
+        }
+        // The other refusals of those two.
+        let behind = |word| check_items(&[&items[..], &[word]].concat());
+        assert_eq!(behind(words::event_header(4, 1)), refused(15, place));
+        assert_eq!(behind(words::event_header(5, 1)), refused(14, place + 1));
+        assert_eq!(behind(words::trailer(5, place as u32 + 1)), refused(14, place));
+        // An input that ends among them.
+        let block = two_events(&items);
+        for end in 0..block.len() {
+            assert_eq!(check(&bytes(&block[..end])), refused(11, end as u64));
+        }
+    }
+}
+
+/// Type 12 may stand where an item may, and nowhere else.
+#[test]
+fn where_scalers_may_stand() {
+    let scalers = [words::scalers(1), 0x91400001];
+    let [low, high] = words::trigger_time(256);
+    let raw = words::pulse_raw(1, 0, 1);
+    let fronts: [&[u32]; 6] =
+        [&[], &[low], &[low, high], &[0xB9800000], &[words::window(1, 2), 5], &[raw, 5]];
+    for front in fronts {
+        let items = [front, &scalers].concat();
+        assert_eq!(check_items(&items), items.len() as u64 + 4);
+    }
+    assert_eq!(check_items(&[&[words::window(1, 4), 5][..], &scalers].concat()), refused(12, 4));
+    assert_eq!(check_items(&[&[raw][..], &scalers].concat()), refused(12, 3));
+    assert_eq!(check_items(&[&[raw, 1 << 13][..], &scalers].concat()), 8);
+    for place in [0, 1, 2, 9] {
+        assert_eq!(changed(place, words::scalers(0)), [refused(12, place as u64), 9][place / 9]);
+    }
+    // "bits 26-6 zero"
+    for bit in 6..=26 {
+        assert_eq!(check_items(&[scalers[0] | 1 << bit, scalers[1]]), refused(13, 2));
+    }
+}
+
+/// "The lister prints `scalers` and the words in order": in one line.
+#[test]
+fn scalers_are_listed() {
+    let block = two_events(&[words::scalers(2), 0x91400001, u32::MAX]);
+    let lines = "block	5	0	2
+event	0
+scalers	2436890625	4294967295
+event	1
+end	7
+";
+    assert_eq!(list(&bytes(&block)), lines);
+    let front = "block	5	0	2
+event	0
+scalers";
+    // The words accepted so far, and then the refusal.
+    assert_eq!(
+        list(&bytes(&block[..3])),
+        format!(
+            "{front}
+refused	11	3
+"
+        )
+    );
+    assert_eq!(
+        list(&bytes(&block[..4])),
+        format!(
+            "{front}	2436890625
+refused	11	4
+"
+        )
+    );
+    assert_eq!(
+        list(&bytes(&two_events(&[words::scalers(0)]))),
+        format!(
+            "{front}
+event	1
+end	5
+"
+        )
+    );
+    let behind = list(&bytes(&two_events(&[words::scalers(1), 7, 0xB9800000])));
+    assert_eq!(
+        behind,
+        format!(
+            "{front}	7
+refused	12	4
+"
+        )
+    );
+    let bad = list(&bytes(&two_events(&[words::scalers(1) | 1 << 6])));
+    assert_eq!(
+        bad,
+        "block	5	0	2
+event	0
+refused	13	2
+"
+    );
 }
 
 /// The command line, fed `input`.

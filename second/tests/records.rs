@@ -173,6 +173,38 @@ fn raw_pulses() {
     assert_eq!(last, (refused(11, 4), [4, 5, 0, 7, 249, 1], NONE));
 }
 
+/// "scalers with all their words, and refused if one of them is"
+#[test]
+fn scalers() {
+    // Words that look like others are scalers.
+    let three = [words::scalers(3), words::event_header(4, 1), FILLER, 0];
+    let (records, last) = read_items(&three);
+    assert_eq!(records[0], ([17, 0, 3, 0, 3, 0], [6, 5, 0, 9, 0, 0]));
+    assert_eq!(records[1], ([13, 5, 7, 0, 0, 0], [7, 5, 0, 8, 3, 0]));
+    assert_eq!(last.0, 7);
+    for count in [0, 1, 18, 63] {
+        let items = [&[words::scalers(count)][..], &vec![u32::MAX; count as usize]].concat();
+        let (records, _) = read_items(&items);
+        let behind = [count + 3, 5, 0, 9, 0, 0];
+        assert_eq!(records[0], ([17, 0, count.into(), 0, 3, 0], behind));
+        assert_eq!(records.len(), 2);
+        // An item behind them is refused at the next call.
+        let (records, last) = read_items(&[&items[..], &[RUN_A[5]]].concat());
+        assert_eq!((records.len(), last), (1, (refused(12, behind[0].into()), behind, NONE)));
+    }
+    // Behind a raw item, whose pairs end there.
+    let (records, _) = read_items(&[words::pulse_raw(1, 0, 1), 5, three[0], 5, 6, 7]);
+    assert_eq!(records[0], ([8, 1, 0, 1, 3, 1], [4, 5, 0, 7, 249, 1]));
+    assert_eq!(records[1], ([17, 0, 3, 0, 5, 0], [8, 5, 0, 9, 0, 0]));
+    // Where the input ends among them the scan stays before the type 12.
+    let before = [2, 5, 0, 3, 0, 0];
+    for end in 3..6 {
+        let (records, last) = read(&block(&three)[..end]);
+        assert_eq!((records.len(), last), (2, (refused(11, end as u64), before, NONE)));
+    }
+    assert_eq!(read_items(&[three[0] | 1 << 26]).1, (refused(13, 2), before, NONE));
+}
+
 #[test]
 fn fillers() {
     let with = |fillers: &[u32]| read(&[&RUN_A[..9], fillers].concat());
@@ -232,7 +264,7 @@ fn blocks_at_the_limit() {
 
 #[test]
 fn arrays_of_another_length() {
-    let no_scan = [vec![], vec![0; 5], vec![0; 7], vec![0, 0, 0, 9, 0, 0], vec![0, 0, 0, 0, 0, 2]];
+    let no_scan = [vec![], vec![0; 5], vec![0; 7], vec![0, 0, 0, 10, 0, 0], vec![0, 0, 0, 9, 1, 2]];
     for mut scan in no_scan {
         let (before, mut record) = (scan.clone(), [77; 8]);
         assert_eq!(next(&mut scan, &RUN_A, &mut record), refused(64, 0));
@@ -253,7 +285,7 @@ fn arrays_of_another_length() {
 
 #[test]
 fn scans_of_the_host() {
-    // A second time word and a pair on their own.
+    // A second time word, a pair and a scaler on their own.
     let timed = [4, 5, 0, 4, 0, 0];
     assert_eq!(call(&RUN_A, timed), (5, [5, 5, 0, 5, 0, 0], [6, 0, 0, 0, 0, 0]));
     let words = [5 << 16 | 6, 7 << 16 | NOT_SECOND];
@@ -261,14 +293,26 @@ fn scans_of_the_host() {
     assert_eq!((answer, scan, record), (1, [1, 5, 0, 6, 1, 1], [9, 5, 6, 0, 0, 0]));
     assert_eq!(call(&words, scan), (2, [2, 5, 0, 5, 0, 0], [9, 7, 0, 0, 1, 0]));
     assert_eq!(call(&words, [1, 5, 0, 7, 9, 1]), (2, [2, 5, 0, 7, 0, 1], [9, 7, 0, 0, 1, 0]));
+    let words = [FILLER, words::event_header(5, 0)];
+    let (answer, scan, record) = call(&words, [0, 5, 1, 9, 2, 0]);
+    assert_eq!((answer, scan, record), (1, [1, 5, 1, 9, 1, 0], [18, FILLER.into(), 0, 0, 0, 0]));
+    assert_eq!(call(&words, scan).1, [2, 5, 1, 9, 0, 0]);
+    // It does not go on to the next one, however many are to come.
+    assert_eq!(call(&words, [0, 5, 1, 9, u32::MAX, 0]).1, [1, 5, 1, 9, u32::MAX - 1, 0]);
+    assert_eq!(call(&words, [1, 5, 1, 9, 0, 0]).2, [3, 5, 0, 0, 0, 0]);
+    assert_eq!(call(&words, [0, 5, 1, 9, 0, 0]).0, refused(12, 0));
+    assert_eq!(call(&words, [2, 5, 1, 9, 1, 0]).0, refused(11, 2));
+    assert_eq!(call(&words, [4_194_303, 5, 1, 9, 1, 0]).0, refused(14, 4_194_303));
+    // A second number means nothing here, and is 0 behind the word.
+    assert_eq!(call(&words, [0, 5, 1, 9, 2, 1]).1, [1, 5, 1, 9, 1, 0]);
 }
 
 #[test]
 fn any_scan_is_answered() {
     let edges = [0, 1, 2, 5, 250, 4_194_303, u32::MAX];
-    for number in 0..9 * 7 * 7 * 2 {
-        let (place, first) = (edges[number / 18 % 7], edges[number / 126]);
-        let scan = [place, first, first, number as u32 % 9, first, number as u32 / 9 % 2];
+    for number in 0..10 * 7 * 7 * 2 {
+        let (place, first) = (edges[number / 20 % 7], edges[number / 140]);
+        let scan = [place, first, first, number as u32 % 10, first, number as u32 / 10 % 2];
         let (answer, behind, _) = call(&RUN_A, scan);
         assert!(answer >> 32 <= 16);
         assert!(answer >> 32 == 0 || behind == scan);

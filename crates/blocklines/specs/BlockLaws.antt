@@ -1,15 +1,14 @@
 -- A block listed word by word. Assumes nothing.
-use Prim.Native.Nat.{ℕ, zero, suc, _+_, _-_, _*_, _≤_, _<_}
+use Prim.Native.Nat.{ℕ, _+_, _-_, _*_, _≤_, _<_}
 use mathlib.Core.Path.{_≡_, refl, sym, ap, _∙_}
-use mathlib.Core.Bool.{Bool, true, false, cond, false≢true}
+use mathlib.Core.Bool.{true, false, false≢true}
 use mathlib.Core.List.{List, [], _∷_, _++_, append-assoc, append-nil}
 use native.Mathlib.Omega.{arith}
 use native.Mathlib.Nat.{zero-add, add-zero}
 use lib.Dec.{eqb}
 use lib.ListN.{length, take, drop, getD, length-drop}
-use lib.Seq.{drop-drop, take-all}
 use Rattle.fields.specs.Bytes.{wordsOfBytes}
-use Rattle.fields.specs.BytesLaws.{words-none, words-some, words-drop, words-le}
+use Rattle.fields.specs.BytesLaws.{words-none}
 use Rattle.items.specs.declared.Item.{Item}
 use Rattle.scan.specs.declared.Scan.{Scan}
 use Rattle.reader.specs.declared.Step.{Step}
@@ -19,7 +18,7 @@ use Rattle.reader.specs.declared.Judged.the-variants as J
 use Rattle.scan.specs.After.{startOf}
 use Rattle.reader.specs.Reader.{stepAt, withItem, judgeAt, Out, endNumber, outOf, Reading, then, just, onJudged, readFrom}
 use Rattle.reader.specs.ReaderLaws.{ended}
-use Rattle.reader.specs.RunLaws.{items-le, end-by}
+use Rattle.reader.specs.RunLaws.{end-by}
 use Rattle.written.specs.Page.{Page, put}
 use Rattle.written.specs.PageLaws.{put-append}
 use Rattle.written.specs.Line.{Line, lineText, textOf}
@@ -27,15 +26,9 @@ use Rattle.written.specs.LineLaws.{text-append, say-one, say-both}
 use Rattle.blocklines.specs.declared.Block.{Block}
 use Rattle.lines.specs.Lines.{refusedLine, fillLines}
 use Rattle.entries.specs.Entries.{recordLines, fillerIn}
-use Rattle.entries.specs.AheadLaws.{read-at}
+use Rattle.entries.specs.AheadLaws.{tail-is, read-at}
 use Rattle.glance.specs.QuickLaws.{Went}
 use Rattle.blocklines.specs.BlockLines.{itemLines, fillersIn, isWhole, outLines, blockLines, BlockSays, ReadingSays}
-
--- ---- words and bytes
-
--- a part that is lent, from i to the end
-pub tail-is : (bytes : List ℕ) (i : ℕ) → take (length bytes - i) (drop i bytes) ≡ drop i bytes
-tail-is bytes i = take-all (length bytes - i) (drop i bytes) (omega (arith, length-drop i bytes))
 
 -- ---- a reading
 

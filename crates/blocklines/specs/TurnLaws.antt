@@ -1,7 +1,7 @@
 -- How the block goes on behind a word that was listed. Assumes nothing.
 use Prim.Native.Nat.{ℕ, _≤_}
 use mathlib.Core.Path.{_≡_, refl, sym, ap, _∙_}
-use mathlib.Core.List.{List, [], _∷_}
+use mathlib.Core.List.{List}
 use native.Mathlib.Omega.{arith}
 use Rattle.fields.specs.Bytes.{wordsOfBytes}
 use Rattle.items.specs.declared.Item.{Item}
@@ -34,6 +34,8 @@ filler-le (I.Time r) = omega arith
 filler-le (I.Pedestal r) = omega arith
 filler-le (I.Empty r) = omega arith
 filler-le (I.Filler r) = omega arith
+filler-le (I.Scalers r) = omega arith
+filler-le (I.Scaler r) = omega arith
 
 -- ---- what the writers put
 

@@ -5,7 +5,7 @@ use mathlib.Core.List.{List, [], _∷_}
 use Rattle.records.specs.declared.answer.Record.{Record}
 use Rattle.records.specs.declared.answer.Record.the-variants as R
 
--- the kinds; those that stand for no record are in `ends`
+-- the kinds; those that stand for no record, 0 and 16, are in `ends`
 abbrev pub kindOf : Record → ℕ
 kindOf (R.Block r) = 1
 kindOf (R.Parameters r) = 2
@@ -22,6 +22,8 @@ kindOf (R.Pedestal r) = 12
 kindOf (R.Trailer r) = 13
 kindOf (R.Fillers slot n) = 14
 kindOf (R.Empty r) = 15
+kindOf (R.Scalers p) = 17
+kindOf (R.Scaler r) = 18
 
 -- the five numbers behind the kind
 abbrev pub fieldNumbers : Record → List ℕ
@@ -41,6 +43,8 @@ fieldNumbers (R.Pedestal r) = r .channel ∷ r .pulse ∷ 0 ∷ r .vmin ∷ r .v
 fieldNumbers (R.Trailer r) = r .slot ∷ r .words ∷ 0 ∷ 0 ∷ 0 ∷ []
 fieldNumbers (R.Fillers slot n) = slot ∷ n ∷ 0 ∷ 0 ∷ 0 ∷ []
 fieldNumbers (R.Empty r) = r .slot ∷ 0 ∷ 0 ∷ 0 ∷ 0 ∷ []
+fieldNumbers (R.Scalers p) = 0 ∷ p .count ∷ 0 ∷ p .place ∷ 0 ∷ []
+fieldNumbers (R.Scaler r) = r .value ∷ 0 ∷ 0 ∷ 0 ∷ 0 ∷ []
 
 abbrev pub recordNumbers : Record → List ℕ
 recordNumbers x = kindOf x ∷ fieldNumbers x

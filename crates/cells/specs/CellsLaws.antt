@@ -28,6 +28,8 @@ TimeSound (R.Pedestal r) = Unit {0}
 TimeSound (R.Trailer r) = Unit {0}
 TimeSound (R.Fillers slot n) = Unit {0}
 TimeSound (R.Empty r) = Unit {0}
+TimeSound (R.Scalers p) = Unit {0}
+TimeSound (R.Scaler r) = Unit {0}
 
 -- the record of a kind and five numbers
 abbrev recordBy : ℕ → ℕ → ℕ → ℕ → ℕ → ℕ → Record
@@ -46,7 +48,9 @@ recordBy kind a b c d e =
     (cond (eqb kind 12) (R.Pedestal (record { channel = a; pulse = b; vmin = d; vpeak = e }))
     (cond (eqb kind 13) (R.Trailer (record { slot = a; words = b }))
     (cond (eqb kind 14) (R.Fillers a b)
-    (R.Empty (record { slot = a })))))))))))))))
+    (cond (eqb kind 15) (R.Empty (record { slot = a }))
+    (cond (eqb kind 17) (R.Scalers (record { place = d; count = b }))
+    (R.Scaler (record { value = a })))))))))))))))))
 
 abbrev recordOf : List ℕ → Record
 recordOf n = recordBy (getD n 0 0) (getD n 1 0) (getD n 2 0) (getD n 3 0) (getD n 4 0) (getD n 5 0)
@@ -76,6 +80,8 @@ record-back (R.Pedestal r) h = refl
 record-back (R.Trailer r) h = refl
 record-back (R.Fillers slot n) h = refl
 record-back (R.Empty r) h = refl
+record-back (R.Scalers p) h = refl
+record-back (R.Scaler r) h = refl
 
 -- so that the numbers say all of a record: two with the same numbers are the same
 pub same-record : (x y : Record) → TimeSound x → TimeSound y → recordNumbers x ≡ recordNumbers y → x ≡ y

@@ -70,6 +70,8 @@ time-sound r t (word ∷ words) low at = by-step (stepAt t word) refl
     by-form F.Pedestal u e = low
     by-form F.Empty u e = low
     by-form F.Filler u e = low
+    by-form F.Scalers u e = low
+    by-form F.Scaler u e = low
 
     by-step : (y : Step) → stepAt t word ≡ y → Sound (withHigh r t (onHigh (withItem word y)))
     by-step (S.Went f u) e = by-form f u e
@@ -109,6 +111,8 @@ next-sound s (word ∷ words) = by-step (stepAt s word) refl
     by-form F.Pedestal t e = tt
     by-form F.Empty t e = tt
     by-form F.Filler t e = tt
+    by-form F.Scalers t e = pairs-sound _ (t .place) (λ p. tt) (pairsFrom t 0 words)
+    by-form F.Scaler t e = tt
 
     by-step : (y : Step) → stepAt s word ≡ y → Sound (fromJudged (withItem word y) (s .place) words)
     by-step (S.Went f t) e = by-form f t e

@@ -6,6 +6,7 @@ use framing::block_header::BlockHeader;
 use framing::empty::ModuleEmpty;
 use framing::event_header::EventHeader;
 use framing::parameters::Parameters;
+use framing::scaler::ScalerWord;
 use framing::trailer::BlockTrailer;
 use framing::trigger_time::TriggerTime;
 use framing::trigger_time_high::TriggerTimeHigh;
@@ -51,6 +52,10 @@ const TRAILER: u64 = 13;
 const FILLERS: u64 = 14;
 
 const EMPTY: u64 = 15;
+
+const SCALERS: u64 = 17;
+
+const SCALER: u64 = 18;
 
 fn block_numbers(r: BlockHeader) -> [u64; RECORD]
     ensures { λ n. ⌜ n ≡ recordNumbers (Record.Block r) ⌝ }
@@ -200,6 +205,19 @@ fn empty_numbers(r: ModuleEmpty) -> [u64; RECORD]
     [EMPTY, r.slot as u64, 0, 0, 0, 0]
 }
 
+// An event's scalers: how many words they have, and the place of the first.
+fn scalers_numbers(scalers: Pairs) -> [u64; RECORD]
+    ensures { λ n. ⌜ n ≡ recordNumbers (Record.Scalers scalers) ⌝ }
+{
+    [SCALERS, 0, scalers.count as u64, 0, scalers.place as u64, 0]
+}
+
+fn scaler_numbers(r: ScalerWord) -> [u64; RECORD]
+    ensures { λ n. ⌜ n ≡ recordNumbers (Record.Scaler r) ⌝ }
+{
+    [SCALER, r.value as u64, 0, 0, 0, 0]
+}
+
 // The numbers of a record.
 pub fn record_numbers(x: Record) -> [u64; RECORD]
     ensures { λ n. ⌜ n ≡ recordNumbers x ⌝ }
@@ -220,5 +238,7 @@ pub fn record_numbers(x: Record) -> [u64; RECORD]
         Record::Trailer(r) => trailer_numbers(r),
         Record::Fillers(slot, count) => fillers_numbers(slot, count),
         Record::Empty(r) => empty_numbers(r),
+        Record::Scalers(scalers) => scalers_numbers(scalers),
+        Record::Scaler(r) => scaler_numbers(r),
     }
 }

@@ -10,7 +10,10 @@ use Rattle.refusals.specs.Refusal.{numberOf}
 use Rattle.items.specs.declared.Item.{Item}
 use Rattle.modes.specs.Channel.{commonOf, channelWords}
 use Rattle.scan.specs.After.{startOf}
+use Rattle.scalers.specs.declared.Scalers.{Scalers}
+use Rattle.scalers.specs.Scalers.{nothingCounted}
 use Rattle.state.specs.declared.State.{State}
+use Rattle.state.specs.State.{withScalers}
 use Rattle.writer.specs.declared.Finished.{Finished}
 use Rattle.writer.specs.Calls.{OpenEventSays, FinishSays}
 use Rattle.closing.specs.Closing.{CloseSays}
@@ -21,12 +24,13 @@ use Rattle.places.specs.Places.{isState}
 use Rattle.numbers.specs.Numbers.{table, marksFrom, stateFrom, numbersOf}
 use Rattle.numbers.specs.On.{onState}
 use Rattle.host.specs.Face.{FinishFace}
+use Rattle.hostcount.specs.FaceLaws.{loaded, thresholds}
 use Rattle.numbers.specs.BackLaws.{Loads, numbers-back}
-use Rattle.owners.specs.Order.{Bench, Post, PostRun, Apart}
+use Rattle.owners.specs.Order.{Bench, Post, Aside, PostRun, Apart}
 use Rattle.owners.specs.Order as P
-use Rattle.owners.specs.OrderLaws.{order}
-use Rattle.owners.specs.Own.{EventRun, postedWindow, ofChannel, wordsFor}
-use Rattle.owners.specs.AloneLaws.{own-words, no-window, own-alone}
+use Rattle.owners.specs.OrderLaws.{order, order-alone}
+use Rattle.owners.specs.Own.{EventRun, Alike, postedWindow, closedWords, ofChannel, wordsFor}
+use Rattle.owners.specs.AloneLaws.{own-words, no-window, own-alone, whole-event}
 use Rattle.layout.specs.NothingLost.{AllWords}
 use Rattle.claims.specs.Run.{Run}
 use Rattle.claims.specs.Run as R
@@ -35,9 +39,9 @@ use Rattle.claims.specs.Reads.{Reads}
 use Rattle.claims.specs.ReadsLaws.{run-next}
 use Rattle.claims.specs.Bytes.{bytesOfWords}
 use Rattle.claims.specs.CheckLaws.{run-checked}
-use Rattle.claims.specs.FromC.{Call, CRun, IsRun, CPostRun, CEventRun, eventSettings, cWordsFor}
+use Rattle.claims.specs.FromC.{Call, CRun, IsRun, CPostRun, CEventRun, eventSettings, cClosedWords, cWordsFor, CAlike}
 use Rattle.claims.specs.FromC as C
-use Rattle.claims.specs.FromCLaws.{over, below, open-block-call, open-event-call, post-call, close-call, finish-call}
+use Rattle.claims.specs.FromCLaws.{over, below, open-block-call, open-event-call, post-call, aside-call, close-call, finish-call}
 
 -- ---- a run
 
@@ -61,8 +65,9 @@ is-run {words = words} {xs = xs} l r = (l .state, subst (λ (s : State). Run s w
 
 pub c-run : {n words : List ℕ} {xs : List Item} → CRun n words xs → IsRun n words xs
 c-run (C.opened n words block events n′ words′ f) =
-    let k = open-block-call n words block events 0 n′ words′ (was-state n _ (f .number)) f in
-    is-run (k .state) (R.opened (stateFrom n) words block events (k .answer) words′ (k .said) (k .number))
+    let e = was-state n _ (f .number) in
+    let k = open-block-call n words block events 0 n′ words′ e f in
+    is-run (k .state) (R.opened (stateFrom n) words block events (k .answer) words′ (thresholds n e) (loaded n e) (k .said) (k .number))
 c-run (C.begun {n} {words} {xs} run event time r n′ f) =
     let i = c-run run in
     let k = open-event-call n event time r n′ (i .0) f in
@@ -71,14 +76,18 @@ c-run (C.posted {n} {words} {xs} run store c w r n′ store′ f) =
     let i = c-run run in
     let k = post-call n store c w r n′ store′ (i .0) f in
     is-run (k .state) (R.posted (i .1) store c w (k .answer) store′ (k .said))
-c-run (C.closed {n} {words} {xs} run store n′ words′ f) =
+c-run (C.counted {n} {words} {xs} run a r n′ f) =
     let i = c-run run in
-    let k = close-call n store words 0 n′ words′ (i .0) f in
-    is-run (k .state) (R.closed (i .1) store (k .answer) words′ (k .said) (k .number))
-c-run (C.not-closed {n} {words} {xs} run store r n′ words′ f ne) =
+    let k = aside-call n a r n′ (i .0) f in
+    is-run (k .state) (R.counted (i .1) a (k .answer) (k .said))
+c-run (C.closed {n} {words} {xs} run store asked n′ words′ f) =
     let i = c-run run in
-    let k = close-call n store words r n′ words′ (i .0) f in
-    is-run (k .state) (R.not-closed (i .1) store (k .answer) words′ (k .said) (λ z. ne (sym (k .number) ∙ z)))
+    let k = close-call n store words asked 0 n′ words′ (i .0) f in
+    is-run (k .state) (R.closed (i .1) store asked (k .answer) words′ (k .said) (k .number))
+c-run (C.not-closed {n} {words} {xs} run store asked r n′ words′ f ne) =
+    let i = c-run run in
+    let k = close-call n store words asked r n′ words′ (i .0) f in
+    is-run (k .state) (R.not-closed (i .1) store asked (k .answer) words′ (k .said) (λ z. ne (sym (k .number) ∙ z)))
 c-run (C.not-opened {n} {words} {xs} run block events r n′ words′ f ne) =
     let i = c-run run in
     let k = open-block-call n words block events r n′ words′ (i .0) f in
@@ -131,48 +140,83 @@ c-run-checked run r n′ words′ f l w =
 abbrev bench : List ℕ → List ℕ → Bench
 bench n store = record { state = stateFrom n; store = store }
 
-c-posts : {n store m rows : List ℕ} {l : List Post} {ns : List (Post × ℕ)} → isState n ≡ true → CPostRun n store l ns m rows
-    → (isState m ≡ true) × PostRun (bench n store) l ns (bench m rows)
+c-posts : {n store m rows : List ℕ} {l : List Post} {ns : List (Post × ℕ)} {ks : List Aside} {is : List ℕ} → isState n ≡ true → CPostRun n store l ns ks is m rows
+    → (isState m ≡ true) × PostRun (bench n store) l ns ks is (bench m rows)
 c-posts e C.none = (e, P.none)
-c-posts e (C.one {n} {store} {m} {rows} p {l} {ns} r n′ store′ f rest) =
+c-posts e (C.one {n} {store} {m} {rows} p {l} {ns} {ks} {is} r n′ store′ f rest) =
     let k = post-call n store (p .channel) (p .window) r n′ store′ e f in
     let i = c-posts (k .state .state) rest in
-    let more : PostRun (record { state = k .answer .state; store = store′ }) l ns (bench m rows) =
-    subst (λ (s : State). PostRun (record { state = s; store = store′ }) l ns (bench m rows)) (k .state .back) (i .1) in
-    (i .0, subst (λ (j : ℕ). PostRun (bench n store) (p ∷ l) ((p, j) ∷ ns) (bench m rows)) (k .number) (P.one p (k .answer) store′ (k .said) more))
+    let more : PostRun (record { state = k .answer .state; store = store′ }) l ns ks is (bench m rows) =
+    subst (λ (s : State). PostRun (record { state = s; store = store′ }) l ns ks is (bench m rows)) (k .state .back) (i .1) in
+    (i .0, subst (λ (j : ℕ). PostRun (bench n store) (p ∷ l) ((p, j) ∷ ns) ks is (bench m rows)) (k .number) (P.one p (k .answer) store′ (k .said) more))
+c-posts e (C.aside {n} {store} {m} {rows} a {l} {ns} {ks} {is} r n′ f rest) =
+    let k = aside-call n a r n′ e f in
+    let i = c-posts (k .state .state) rest in
+    let more : PostRun (record { state = k .answer .state; store = store }) l ns ks is (bench m rows) =
+    subst (λ (s : State). PostRun (record { state = s; store = store }) l ns ks is (bench m rows)) (k .state .back) (i .1) in
+    (i .0, subst (λ (j : ℕ). PostRun (bench n store) l ns (a ∷ ks) (j ∷ is) (bench m rows)) (k .number) (P.aside a (k .answer) (k .said) more))
 
--- "Each post is accepted, or refused with the same number, alike in every order, and the state and store at the end are the same", number by number
-pub c-order : {n store m rows m′ rows′ : List ℕ} {l l′ : List Post} {ns ks : List (Post × ℕ)} → isState n ≡ true → Apart l → Perm l l′
-    → CPostRun n store l ns m rows → CPostRun n store l′ ks m′ rows′ → Perm ns ks × ((m ≡ m′) × (rows ≡ rows′))
+-- "Each post is accepted, or refused with the same number, alike in every order, and the state and store at the end are the same", number by number; the same
+-- calls that count between any two of them are answered alike too
+pub c-order : {n store m rows m′ rows′ : List ℕ} {l l′ : List Post} {ns ms : List (Post × ℕ)} {ks : List Aside} {is js : List ℕ} → isState n ≡ true → Apart l → Perm l l′
+    → CPostRun n store l ns ks is m rows → CPostRun n store l′ ms ks js m′ rows′ → Perm ns ms × ((is ≡ js) × ((m ≡ m′) × (rows ≡ rows′)))
 c-order {m = m} {m′ = m′} e a r x y =
     let i = c-posts e x in
     let j = c-posts e y in
     let o = order a r (i .1) (j .1) in
-    (o .0, (sym (numbers-back m (i .0)) ∙ (ap (λ (b : Bench). numbersOf (b .state)) (o .1) ∙ numbers-back m′ (j .0)), ap (λ (b : Bench). b .store) (o .1)))
+    let end = o .1 .1 in
+    (o .0, (o .1 .0, (sym (numbers-back m (i .0)) ∙ (ap (λ (b : Bench). numbersOf (b .state)) end ∙ numbers-back m′ (j .0)), ap (λ (b : Bench). b .store) end)))
+
+-- where other calls count between them, or none, the posts are answered alike too, and the state and store at the end are the same but for what is counted
+pub c-order-alone : {n store m rows m′ rows′ : List ℕ} {l l′ : List Post} {ns ms : List (Post × ℕ)} {ks js : List Aside} {is hs : List ℕ} → isState n ≡ true → Apart l → Perm l l′
+    → CPostRun n store l ns ks is m rows → CPostRun n store l′ ms js hs m′ rows′
+    → Perm ns ms × (((c : Scalers) → withScalers (stateFrom m) c ≡ withScalers (stateFrom m′) c) × (rows ≡ rows′))
+c-order-alone e a r x y =
+    let o = order-alone a r (c-posts e x .1) (c-posts e y .1) in
+    (o .0, (λ c. ap (λ (b : Bench). b .state) (o .1 c), ap (λ (b : Bench). b .store) (o .1 nothingCounted)))
 
 -- an event by C calls is one by the calls
-opening : (e : CEventRun) → Call (λ a. OpenEventSays (stateFrom (e .before)) (e .number) (e .time) a) 0 (e .start)
-opening e = open-event-call (e .before) (e .number) (e .time) 0 (e .start) (was-state (e .before) _ (e .opened .number)) (e .opened)
+before-state : (e : CEventRun) → isState (e .before) ≡ true
+before-state e = was-state (e .before) _ (e .opened .number)
 
-between : (e : CEventRun) → (isState (e .end) ≡ true) × PostRun (bench (e .start) (e .store)) (e .posts) (e .answers) (bench (e .end) (e .store′))
+opening : (e : CEventRun) → Call (λ a. OpenEventSays (stateFrom (e .before)) (e .number) (e .time) a) 0 (e .start)
+opening e = open-event-call (e .before) (e .number) (e .time) 0 (e .start) (before-state e) (e .opened)
+
+between : (e : CEventRun)
+    → (isState (e .end) ≡ true) × PostRun (bench (e .start) (e .store)) (e .posts) (e .answers) (e .asides) (e .told) (bench (e .end) (e .store′))
 between e = c-posts (opening e .state .state) (e .posted)
 
-closing : (e : CEventRun) → Call (λ a. CloseSays (stateFrom (e .end)) (e .store′) (e .words) a (e .words′)) 0 (e .after)
-closing e = close-call (e .end) (e .store′) (e .words) 0 (e .after) (e .words′) (between e .0) (e .closed)
+closing : (e : CEventRun) → Call (λ a. CloseSays (stateFrom (e .end)) (e .store′) (e .words) (e .asked) a (e .words′)) 0 (e .after)
+closing e = close-call (e .end) (e .store′) (e .words) (e .asked) 0 (e .after) (e .words′) (between e .0) (e .closed)
 
 abbrev eventOf : CEventRun → EventRun
 eventOf e =
     let k = opening e in
+    let sizes = loaded (e .before) (before-state e) in
     record {
       start = bench (e .start) (e .store);
       opened =
-          record { before = stateFrom (e .before); number = e .number; time = e .time; answer = k .answer; says = k .said; accepted = k .number; sixteen = sixteen (e .before); gave = k .state .back };
+          record {
+            before = stateFrom (e .before);
+            number = e .number;
+            time = e .time;
+            answer = k .answer;
+            says = k .said;
+            accepted = k .number;
+            sixteen = sixteen (e .before);
+            counts = sizes .counts .0;
+            eighteen = sizes .latched .0;
+            gave = k .state .back;
+          };
       posts = e .posts;
       apart = e .apart;
       answers = e .answers;
+      asides = e .asides;
+      told = e .told;
       end = bench (e .end) (e .store′);
       posted = between e .1;
       words = e .words;
+      asked = e .asked;
       answer = closing e .answer;
       words′ = e .words′;
       says = closing e .said;
@@ -180,10 +224,13 @@ eventOf e =
     }
 
 -- with the same words
-same-words : (e : CEventRun) (c : ℕ) → cWordsFor e c ≡ wordsFor (eventOf e) c
-same-words e c =
+same-closed : (e : CEventRun) → cClosedWords e ≡ closedWords (eventOf e)
+same-closed e =
     let at : ℕ = stateFrom (e .end) .words in
-    ap (λ (s : State). ofChannel c false (take (s .words - at) (drop at (e .words′)))) (closing e .state .back)
+    ap (λ (s : State). take (s .words - at) (drop at (e .words′))) (closing e .state .back)
+
+same-words : (e : CEventRun) (c : ℕ) → cWordsFor e c ≡ wordsFor (eventOf e) c
+same-words e c = ap (ofChannel c false 0) (same-closed e)
 
 pub c-own-words : (e : CEventRun) (c : ℕ) (w : List ℕ) → postedWindow (e .answers) c ≡ w ∷ []
     → cWordsFor e c ≡ channelWords (commonOf (eventSettings e)) (getD (eventSettings e .thresholds) c 0) c w
@@ -198,3 +245,21 @@ pub c-own-alone : (e f : CEventRun) (c : ℕ)
     → postedWindow (e .answers) c ≡ postedWindow (f .answers) c
     → cWordsFor e c ≡ cWordsFor f c
 c-own-alone e f c s t k = same-words e c ∙ (own-alone (eventOf e) (eventOf f) c s t k ∙ sym (same-words f c))
+
+-- "which holds with the latched counts as one more common input": two events that are alike have the same words
+pub c-whole-event : (e f : CEventRun) → CAlike e f → cClosedWords e ≡ cClosedWords f
+c-whole-event e f a = same-closed e ∙ (whole-event (eventOf e) (eventOf f) alike ∙ sym (same-closed f))
+  where
+    alike : Alike (eventOf e) (eventOf f)
+    alike =
+        record {
+          common = a .common;
+          slot = a .slot;
+          times = a .times;
+          number = a .number;
+          time = a .time;
+          thresholds = a .thresholds;
+          windows = a .windows;
+          asked = a .asked;
+          latched = a .latched;
+        }

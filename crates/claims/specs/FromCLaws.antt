@@ -1,11 +1,11 @@
 -- One C call: refused exactly when its table says, and nothing altered or nothing old left then; on the numbers of a state it is the library's call. Assumes nothing.
-use Prim.Native.Nat.{ℕ, zero, suc, _+_, _*_, _/_, _^_, _≤_, _<_}
+use Prim.Native.Nat.{ℕ, _+_, _*_, _/_, _^_, _≤_, _<_}
 use mathlib.Core.Path.{_≡_, refl, sym, ap, ap₂, _∙_, subst}
 use mathlib.Core.Bool.{Bool, true, false, not, cond, _&&_}
 use mathlib.Core.List.{List, [], _∷_, _++_}
 use native.Mathlib.Omega.{arith}
-use borrow.Author.Tests.{leb-true, ltb-true, le-ltb, eq-eqb, ne-eqb}
-use lib.Dec.{eqb, leb, ltb}
+use borrow.Author.Tests.{ltb-true, le-ltb, eq-eqb, ne-eqb, eqb-true}
+use lib.Dec.{eqb, ltb}
 use lib.ListN.{length, getD, replicate}
 use Rattle.ground.specs.Splice.{splice}
 use Rattle.ground.specs.Tests.{firstOf, this-row}
@@ -19,24 +19,29 @@ use Rattle.find.specs.Call.{findTable, findNumber, foundPulses}
 use Rattle.find.specs.RulesLaws.{find-says}
 use Rattle.state.specs.declared.State.{State}
 use Rattle.writer.specs.declared.Answer.{Answer}
-use Rattle.state.specs.State.{stateOk, idle, blank, withEvent}
+use Rattle.scalers.specs.Scalers.{nothingCounted, latchedNow, resetNow}
+use Rattle.state.specs.State.{stateOk, idle, blank, withEvent, withScalers}
 use Rattle.writer.specs.Calls.{OpenBlockSays, OpenEventSays, PostSays}
 use Rattle.closing.specs.Closing.{CloseSays}
 use Rattle.refusing.specs.Tables.{setUpNumber, openBlockTable, openBlockNumber, openEventTable, openEventNumber, postTable, postNumber, closeTable, closeNumber, finishTable, finishNumber}
+use Rattle.counting.specs.Counting.{countTable, countNumber, withFrames, latchTable, latchNumber, resetTable, resetNumber}
 use Rattle.block.specs.Block.{endItems}
 use Rattle.writer.specs.CallsLaws.{done, refused}
 use Rattle.places.specs.Places.{stateCount, heldIn, isSettings, isState}
 use Rattle.numbers.specs.Numbers.{settingsFrom, table, marksFrom, stateFrom, numbersOf}
 use Rattle.numbers.specs.On.{onState, onSettings}
 use Rattle.host.specs.Face.{blockOpened, posted, eventClosed, finishOn, inHigh, SetUpFace, OpenBlockFace, OpenEventFace, PostFace, CloseFace, FinishFace}
+use Rattle.hostcount.specs.Face.{CountFace, LatchFace, ResetFace}
 use Rattle.hostfind.specs.Found.{foundCount, foundNumbers, FindFace}
 use Rattle.refusals.specs.RefusalLaws.{none-later}
 use Rattle.hostfind.specs.FoundLaws.{found-or-zeros}
 use Rattle.numbers.specs.BackLaws.{Loads, numbers-back}
 use Rattle.host.specs.LoadsLaws.{set-up-loads, open-block-loads, open-event-loads, post-loads, close-loads, finish-loads, finish-below}
-use Rattle.claims.specs.Tables.{Exactly, exactly}
-use Rattle.owners.specs.OrderLaws.{zero-or}
-use Rattle.claims.specs.FromC.{Call, SetUpCall, FinishCall, FindCall, TakenByNone}
+use Rattle.hostcount.specs.LoadsLaws.{count-loads, latch-loads, reset-loads}
+use Rattle.claims.specs.Tables.{asideTable, Exactly, exactly}
+use Rattle.owners.specs.Order.{Aside, frames, latch, reset, AsideSays}
+use Rattle.owners.specs.AsideLaws.{zero-or}
+use Rattle.claims.specs.FromC.{Call, SetUpCall, FinishCall, FindCall, AsideFace, TakenByNone}
 
 -- ---- "exactly when the table says"
 
@@ -64,10 +69,16 @@ pub c-post-exactly : (n store : List ℕ) (c : ℕ) (w : List ℕ) (r : ℕ) (n�
 unfolding postNumber
 c-post-exactly n store c w r n′ store′ f = exactly _ (f .number ∙ ten n _)
 
-pub c-close-exactly : (n store words : List ℕ) (r : ℕ) (n′ words′ : List ℕ) → CloseFace n store words r n′ words′
-    → Exactly ((10, not (isState n)) ∷ closeTable (stateFrom n) store (length words)) r
+pub c-close-exactly : (n store words : List ℕ) (asked : Bool) (r : ℕ) (n′ words′ : List ℕ) → CloseFace n store words asked r n′ words′
+    → Exactly ((10, not (isState n)) ∷ closeTable (stateFrom n) asked store (length words)) r
 unfolding closeNumber
-c-close-exactly n store words r n′ words′ f = exactly _ (f .number ∙ ten n _)
+c-close-exactly n store words asked r n′ words′ f = exactly _ (f .number ∙ ten n _)
+
+pub c-aside-exactly : (n : List ℕ) (k : Aside) (r : ℕ) (n′ : List ℕ) → AsideFace k n r n′ → Exactly ((10, not (isState n)) ∷ asideTable (stateFrom n) k) r
+unfolding countNumber latchNumber resetNumber
+c-aside-exactly n (frames samples) r n′ f = exactly _ (f .number ∙ ten n _)
+c-aside-exactly n latch r n′ f = exactly _ (f .number ∙ ten n _)
+c-aside-exactly n reset r n′ f = exactly _ (f .number ∙ ten n _)
 
 -- the refusal of a finish stands above 2^32, where no length reaches
 high : (k size : ℕ) → (k ≡ 0 → size < 2 ^ 32) → inHigh k size / 2 ^ 32 ≡ k
@@ -134,8 +145,14 @@ pub c-post-refused : (n store : List ℕ) (c : ℕ) (w : List ℕ) (r : ℕ) (n�
     → (n′ ≡ n) × (store′ ≡ store)
 c-post-refused n store c w r n′ store′ f ne = (f .numbers ∙ refused r _ _ ne, f .rows ∙ refused r _ _ ne)
 
-pub c-close-refused : (n store words : List ℕ) (r : ℕ) (n′ words′ : List ℕ) → CloseFace n store words r n′ words′ → (r ≡ 0 → ⊥) → (n′ ≡ n) × (words′ ≡ words)
-c-close-refused n store words r n′ words′ f ne = (f .numbers ∙ refused r _ _ ne, f .buffer ∙ refused r _ _ ne)
+pub c-close-refused : (n store words : List ℕ) (asked : Bool) (r : ℕ) (n′ words′ : List ℕ) → CloseFace n store words asked r n′ words′ → (r ≡ 0 → ⊥)
+    → (n′ ≡ n) × (words′ ≡ words)
+c-close-refused n store words asked r n′ words′ f ne = (f .numbers ∙ refused r _ _ ne, f .buffer ∙ refused r _ _ ne)
+
+pub c-aside-refused : (n : List ℕ) (k : Aside) (r : ℕ) (n′ : List ℕ) → AsideFace k n r n′ → (r ≡ 0 → ⊥) → n′ ≡ n
+c-aside-refused n (frames samples) r n′ f ne = f .numbers ∙ refused r _ _ ne
+c-aside-refused n latch r n′ f ne = f .numbers ∙ refused r _ _ ne
+c-aside-refused n reset r n′ f ne = f .numbers ∙ refused r _ _ ne
 
 -- a finish is refused where its answer is 2^32 or more, and nowhere else
 pub over : (n words : List ℕ) (r : ℕ) (n′ words′ : List ℕ) → FinishFace n words r n′ words′ → 2 ^ 32 ≤ r → finishOn n (length words) ≡ 0 → ⊥
@@ -156,7 +173,7 @@ c-finish-refused n words r n′ words′ f l = let ne = over n words r n′ word
 
 -- a refused set up leaves as many zeros as a state has; an array of another length stays
 pub c-set-up-refused : (m n : List ℕ) (r : ℕ) (n′ : List ℕ) → SetUpFace m n r n′ → (r ≡ 0 → ⊥) → n′ ≡ cond (eqb (length n) stateCount) (replicate stateCount 0) n
-c-set-up-refused m n r n′ f ne = f .numbers ∙ ap (λ (l : List ℕ). cond (eqb (length n) stateCount) l n) (refused r (numbersOf (idle (settingsFrom m))) _ ne)
+c-set-up-refused m n r n′ f ne = f .numbers ∙ ap (λ (l : List ℕ). cond (eqb (length n) stateCount) l n) (refused r (numbersOf (idle (settingsFrom m) nothingCounted)) _ ne)
 
 -- which are the numbers of a state, but of one whose mode, 0, is none
 zeros-state : isState (replicate stateCount 0) ≡ true
@@ -171,6 +188,12 @@ zeros-ten : (rows : List (ℕ × Bool)) → onState (replicate stateCount 0) (fi
 unfolding firstOf
 zeros-ten rows = rw (zeros-state, zeros-out)
 
+zeros-not-counted : (k : Aside) (r : ℕ) (n′ : List ℕ) → AsideFace k (replicate stateCount 0) r n′ → r ≡ 10
+unfolding countNumber countTable latchNumber latchTable resetNumber resetTable
+zeros-not-counted (frames samples) r n′ f = f .number ∙ zeros-ten _
+zeros-not-counted latch r n′ f = f .number ∙ zeros-ten _
+zeros-not-counted reset r n′ f = f .number ∙ zeros-ten _
+
 pub zeros-taken-by-none : TakenByNone (replicate stateCount 0)
 unfolding openBlockNumber openBlockTable openEventNumber openEventTable postNumber postTable closeNumber closeTable finishNumber finishTable
 zeros-taken-by-none =
@@ -178,8 +201,9 @@ zeros-taken-by-none =
       open-block = λ words block events r n′ words′ f. f .number ∙ zeros-ten _;
       open-event = λ event time r n′ f. f .number ∙ zeros-ten _;
       post = λ store c w r n′ store′ f. f .number ∙ zeros-ten _;
-      close = λ store words r n′ words′ f. f .number ∙ zeros-ten _;
+      close = λ store words asked r n′ words′ f. f .number ∙ zeros-ten _;
       finish = λ words r n′ words′ f. f .number ∙ in-high _ _ (zeros-ten _);
+      counted = zeros-not-counted;
     }
   where
     in-high : (k size : ℕ) → k ≡ 10 → inHigh k size ≡ 10 * 2 ^ 32
@@ -201,40 +225,32 @@ c-find-tells-none m c w out r out′ f ne l = rw (c-find-refused m c w out r out
 
 -- ---- a C call on a state is the library's call
 
--- the refusals in the order of their numbers
+-- the refusals at their numbers; 17 and 18 are no call's
 abbrev refusals : List Refusal
-refusals = F.None ∷ F.Setting ∷ F.Store ∷ F.Sample ∷ F.Channel ∷ F.Length ∷ F.Posted ∷ F.Turn ∷ F.Number ∷ F.Room ∷ F.State ∷ []
+refusals =
+    F.None ∷ F.Setting ∷ F.Store ∷ F.Sample ∷ F.Channel ∷ F.Length ∷ F.Posted ∷ F.Turn ∷ F.Number ∷ F.Room ∷ F.State
+    ∷ F.Missing ∷ F.Unallowed ∷ F.Bits ∷ F.Count ∷ F.Slot ∷ F.Bytes ∷ F.None ∷ F.None ∷ F.Frames ∷ []
 
-abbrev From : ℕ → List Refusal → Type 0
-From i [] = Unit {0}
-From i (r ∷ rs) = (numberOf r ≡ i) × From (suc i) rs
+abbrev refusalAt : ℕ → Refusal
+refusalAt n = getD refusals n F.None
 
-place : (i : ℕ) (rs : List Refusal) (k : ℕ) → From i rs → k < length rs → numberOf (getD rs k F.None) ≡ i + k
-place i [] k f h = absurd (omega arith)
-place i (r ∷ rs) zero f h = f .0 ∙ omega arith
-place i (r ∷ rs) (suc k) f h = place (suc i) rs k (f .1) (omega arith) ∙ omega arith
-
--- no row's number is over 10
-abbrev tens : List (ℕ × Bool) → Bool
-tens [] = true
-tens (r ∷ rows) = leb (r .0) 10 && tens rows
-
-first-ten : (rows : List (ℕ × Bool)) → tens rows ≡ true → firstOf rows ≤ 10
-unfolding firstOf
-first-ten [] h = omega arith
-first-ten (r ∷ rows) h = go (r .1) (first-ten rows (and-right (leb (r .0) 10) _ h))
-  where
-    go : (b : Bool) → firstOf rows ≤ 10 → cond b (r .0) (firstOf rows) ≤ 10
-    go true l = leb-true (r .0) 10 (and-left _ (tens rows) h)
-    go false l = l
+-- every row's number is a refusal's
+abbrev named : List (ℕ × Bool) → Bool
+named [] = true
+named (r ∷ rows) = eqb (numberOf (refusalAt (r .0))) (r .0) && named rows
 
 -- the refusal that a table gives
 abbrev refusalIn : List (ℕ × Bool) → Refusal
-refusalIn rows = getD refusals (firstOf rows) F.None
+refusalIn rows = refusalAt (firstOf rows)
 
-number-in : (rows : List (ℕ × Bool)) → tens rows ≡ true → numberOf (refusalIn rows) ≡ firstOf rows
-number-in rows h =
-    place 0 refusals (firstOf rows) (refl, (refl, (refl, (refl, (refl, (refl, (refl, (refl, (refl, (refl, (refl, tt))))))))))) (omega (arith, first-ten rows h)) ∙ omega arith
+number-in : (rows : List (ℕ × Bool)) → named rows ≡ true → numberOf (refusalIn rows) ≡ firstOf rows
+unfolding firstOf
+number-in [] h = refl
+number-in (r ∷ rows) h = go (r .1) (number-in rows (and-right (eqb (numberOf (refusalAt (r .0))) (r .0)) _ h))
+  where
+    go : (b : Bool) → numberOf (refusalIn rows) ≡ firstOf rows → numberOf (refusalAt (cond b (r .0) (firstOf rows))) ≡ cond b (r .0) (firstOf rows)
+    go true e = eqb-true _ _ (and-left _ (named rows) h)
+    go false e = e
 
 -- an accepted call's numbers load as the new state, a refused one's as the old
 either-loads : {n n′ : List ℕ} (k : ℕ) (new : State) → isState n ≡ true → (k ≡ 0 → Loads n′ new) → ((k ≡ 0 → ⊥) → n′ ≡ n) → Loads n′ (ifAccepted k new (stateFrom n))
@@ -245,8 +261,8 @@ either-loads {n} {n′} k new e f g =
 lent : {A : Type 0} {x : A} {i k : ℕ} (new old : A) → i ≡ k → x ≡ ifAccepted i new old → x ≡ ifAccepted k new old
 lent new old e h = h ∙ ap (λ (j : ℕ). ifAccepted j new old) e
 
--- one law for four calls: the call's table, the state that it gives, and what its contract says
-made : (n : List ℕ) (rows : List (ℕ × Bool)) (new : State) {says : Answer → Type 0} {r : ℕ} {n′ : List ℕ} → isState n ≡ true → tens rows ≡ true
+-- one law for the calls on a state: the call's table, the state that it gives, and what its contract says
+made : (n : List ℕ) (rows : List (ℕ × Bool)) (new : State) {says : Answer → Type 0} {r : ℕ} {n′ : List ℕ} → isState n ≡ true → named rows ≡ true
     → r ≡ onState n (firstOf rows) → n′ ≡ ifAccepted r (numbersOf new) n → (0 ≡ r → Loads n′ new)
     → (numberOf (refusalIn rows) ≡ firstOf rows → r ≡ firstOf rows → says (record { refusal = refusalIn rows; state = ifAccepted (firstOf rows) new (stateFrom n) }))
     → Call says r n′
@@ -287,13 +303,29 @@ post-call n store c w r n′ store′ e f =
     (λ z. post-loads n store c w n′ store′ (subst (λ (i : ℕ). PostFace n store c w i n′ store′) (sym z) f))
     (λ z same. record { refusal = z; state = refl; rows = lent _ _ same (f .rows) })
 
-pub close-call : (n store words : List ℕ) (r : ℕ) (n′ words′ : List ℕ) → isState n ≡ true → CloseFace n store words r n′ words′
-    → Call (λ a. CloseSays (stateFrom n) store words a words′) r n′
+pub close-call : (n store words : List ℕ) (asked : Bool) (r : ℕ) (n′ words′ : List ℕ) → isState n ≡ true → CloseFace n store words asked r n′ words′
+    → Call (λ a. CloseSays (stateFrom n) store words asked a words′) r n′
 unfolding closeNumber closeTable
-close-call n store words r n′ words′ e f =
-    made n (closeTable (stateFrom n) store (length words)) (eventClosed (stateFrom n) store) e refl (f .number) (f .numbers)
-    (λ z. close-loads n store words n′ words′ (subst (λ (i : ℕ). CloseFace n store words i n′ words′) (sym z) f))
+close-call n store words asked r n′ words′ e f =
+    made n (closeTable (stateFrom n) asked store (length words)) (eventClosed (stateFrom n) asked store) e refl (f .number) (f .numbers)
+    (λ z. close-loads n store words asked n′ words′ (subst (λ (i : ℕ). CloseFace n store words asked i n′ words′) (sym z) f))
     (λ z same. record { refusal = z; state = refl; buffer = lent _ _ same (f .buffer) })
+
+-- frames, latch and reset
+pub aside-call : (n : List ℕ) (k : Aside) (r : ℕ) (n′ : List ℕ) → isState n ≡ true → AsideFace k n r n′ → Call (AsideSays k (stateFrom n)) r n′
+unfolding countNumber countTable latchNumber latchTable resetNumber resetTable
+aside-call n (frames samples) r n′ e f =
+    made n (countTable (stateFrom n) samples) (withFrames (stateFrom n) samples) e refl (f .number) (f .numbers)
+    (λ z. count-loads n samples n′ (subst (λ (i : ℕ). CountFace n samples i n′) (sym z) f))
+    (λ z same. record { refusal = z; state = refl })
+aside-call n latch r n′ e f =
+    made n (latchTable (stateFrom n)) (withScalers (stateFrom n) (latchedNow (stateFrom n .scalers))) e refl (f .number) (f .numbers)
+    (λ z. latch-loads n n′ (subst (λ (i : ℕ). LatchFace n i n′) (sym z) f))
+    (λ z same. record { refusal = z; state = refl })
+aside-call n reset r n′ e f =
+    made n (resetTable (stateFrom n)) (withScalers (stateFrom n) (resetNow (stateFrom n .scalers))) e refl (f .number) (f .numbers)
+    (λ z. reset-loads n n′ (subst (λ (i : ℕ). ResetFace n i n′) (sym z) f))
+    (λ z same. record { refusal = z; state = refl })
 
 pub finish-call : (n words : List ℕ) (r : ℕ) (n′ words′ : List ℕ) → isState n ≡ true → FinishFace n words r n′ words′ → FinishCall n words r n′ words′
 unfolding finishNumber finishTable
@@ -303,11 +335,11 @@ finish-call n words r n′ words′ e f =
     let size : ℕ = stateFrom n .words + length (endItems (stateFrom n .settings) (stateFrom n .words)) in
     let same : finishOn n (length words) ≡ k = ap (λ (b : Bool). cond b k 10) e in
     record {
-      answer = record { refusal = refusalIn rows; state = ifAccepted k (idle (stateFrom n .settings)) (stateFrom n); length = ifAccepted k size 0 };
+      answer = record { refusal = refusalIn rows; state = ifAccepted k (idle (stateFrom n .settings) (stateFrom n .scalers)) (stateFrom n); length = ifAccepted k size 0 };
       said = record { refusal = number-in rows refl; state = refl; size = refl; buffer = lent _ _ same (f .buffer) };
       number = ap (λ (i : ℕ). inHigh i (ifAccepted k size 0)) (number-in rows refl) ∙ (twice (eqb k 0) size (k * 2 ^ 32) ∙ sym (f .number ∙ ap (λ (i : ℕ). inHigh i size) same));
       state =
-          either-loads k (idle (stateFrom n .settings)) e (λ z. finish-loads n words r n′ words′ f (same ∙ z)) (λ ne. f .numbers ∙ refused _ _ _ (λ z. ne (sym same ∙ z)));
+          either-loads k (idle (stateFrom n .settings) (stateFrom n .scalers)) e (λ z. finish-loads n words r n′ words′ f (same ∙ z)) (λ ne. f .numbers ∙ refused _ _ _ (λ z. ne (sym same ∙ z)));
     }
   where
     twice : (b : Bool) (size other : ℕ) → cond b (cond b size 0) other ≡ cond b size other
@@ -323,7 +355,7 @@ set-up-call m n r n′ e l f =
     let same : r ≡ k =
     f .number ∙ (ap₂ (λ (a b : Bool). orElse (cond a k 1) (cond b 0 badArray)) e (eq-eqb (length n) stateCount l) ∙ none-later k) in
     record {
-      answer = record { refusal = refusalIn rows; state = ifAccepted k (idle (settingsFrom m)) blank };
+      answer = record { refusal = refusalIn rows; state = ifAccepted k (idle (settingsFrom m) nothingCounted) blank };
       said = record { refusal = number-in rows refl; state = refl };
       number = number-in rows refl ∙ sym same;
       state = λ z. subst (Loads n′) (sym (done _ _ (sym same ∙ z))) (set-up-loads m n n′ (subst (λ (i : ℕ). SetUpFace m n i n′) z f));

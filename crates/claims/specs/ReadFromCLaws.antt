@@ -73,24 +73,28 @@ fields-five (R.Pedestal r) = refl
 fields-five (R.Trailer r) = refl
 fields-five (R.Fillers slot n) = refl
 fields-five (R.Empty r) = refl
+fields-five (R.Scalers p) = refl
+fields-five (R.Scaler r) = refl
 
 -- no record's kind is that of the block's end
-kind-below : (x : Record) → kindOf x < endKind
-kind-below (R.Block r) = omega arith
-kind-below (R.Parameters r) = omega arith
-kind-below (R.Event r) = omega arith
-kind-below (R.Time27 r) = omega arith
-kind-below (R.Time48 r high) = omega arith
-kind-below (R.TimeHigh r) = omega arith
-kind-below (R.Window r p) = omega arith
-kind-below (R.Raw r p) = omega arith
-kind-below (R.Pair r) = omega arith
-kind-below (R.Integral r) = omega arith
-kind-below (R.Time r) = omega arith
-kind-below (R.Pedestal r) = omega arith
-kind-below (R.Trailer r) = omega arith
-kind-below (R.Fillers slot n) = omega arith
-kind-below (R.Empty r) = omega arith
+kind-other : (x : Record) → kindOf x ≡ endKind → ⊥
+kind-other (R.Block r) e = omega arith
+kind-other (R.Parameters r) e = omega arith
+kind-other (R.Event r) e = omega arith
+kind-other (R.Time27 r) e = omega arith
+kind-other (R.Time48 r high) e = omega arith
+kind-other (R.TimeHigh r) e = omega arith
+kind-other (R.Window r p) e = omega arith
+kind-other (R.Raw r p) e = omega arith
+kind-other (R.Pair r) e = omega arith
+kind-other (R.Integral r) e = omega arith
+kind-other (R.Time r) e = omega arith
+kind-other (R.Pedestal r) e = omega arith
+kind-other (R.Trailer r) e = omega arith
+kind-other (R.Fillers slot n) e = omega arith
+kind-other (R.Empty r) e = omega arith
+kind-other (R.Scalers p) e = omega arith
+kind-other (R.Scaler r) e = omega arith
 
 -- what was filled in over the front, read back
 filled-back : (x : Record) (out : List ℕ) {out′ : List ℕ} → out′ ≡ splice out 0 (recordNumbers x) → take recordCount out′ ≡ recordNumbers x
@@ -213,14 +217,14 @@ module _ (words : List ℕ) (s : Scan) (xs : List Item) (b : Behind words s xs) 
   after-none (N.Took x u) true e (number, (numbers, filled)) h =
       let t = behind words s xs b e in
       let low : r < 2 ^ 32 = omega (arith, number, place-below words u _ t) in
-      absurd (h (low, λ k. omega (arith, kind-below x, k, filled-kind (kindOf x) _ out filled)))
+      absurd (h (low, λ k. kind-other x (sym (filled-kind (kindOf x) _ out filled) ∙ k)))
   after-none (N.Took x u) false e (number, (numbers, filled)) h = numbers
   after-none (N.End m) room e (number, (numbers, filled)) h = numbers
   after-none (N.Refused m p) room e (number, (numbers, filled)) h = numbers
 
   -- the block's end
   after-end : (x : Next) (room : Bool) → nextAt words s ≡ x → Seen x room s out r n′ out′ → r < 2 ^ 32 → getD out′ 0 0 ≡ endKind → ReadWhole words cells r
-  after-end (N.Took x u) true e (number, (numbers, filled)) low k = absurd (omega (arith, kind-below x, k, filled-kind (kindOf x) _ out filled))
+  after-end (N.Took x u) true e (number, (numbers, filled)) low k = absurd (kind-other x (sym (filled-kind (kindOf x) _ out filled) ∙ k))
   after-end (N.Took x u) false e (number, rest) low k = absurd (omega (arith, number, low))
   after-end (N.End m) true e (number, rest) low k =
       record { items = xs; records = recorded; read = ended-run words s xs b e ∙ ap (λ (i : ℕ). record { items = xs; out = Whole i }) (sym number) }
@@ -311,7 +315,7 @@ stops-from (suc most) words s xs b {cells} c few = go (nextAt words s) refl (λ 
         let low : u .place < 2 ^ 32 = place-below words u _ t in
         let out : List ℕ = splice zeros 0 (recordNumbers x) in
         let kind : getD out 0 0 ≡ kindOf x = filled-kind (kindOf x) (fieldNumbers x) zeros refl in
-        let on : CReads words (cursorOf u) _ = gave c zeros (u .place) (cursorOf u) out (face-of words s zeros (N.Took x u) e) (low, λ k. omega (arith, kind-below x, k, kind)) in
+        let on : CReads words (cursorOf u) _ = gave c zeros (u .place) (cursorOf u) out (face-of words s zeros (N.Took x u) e) (low, λ k. kind-other x (sym kind ∙ k)) in
         let items : List Item = taken words s xs b e .items in
         again u (xs ++ items) t _ on (omega (arith, few, length-append xs items, made-some _ x items (taken words s xs b e .made)))
     go (N.End m) e again =

@@ -1,5 +1,5 @@
 -- Demand 2: "Reading a block .. gives back every field as written", record by record. Assumes nothing.
-use Prim.Native.Nat.{ℕ, zero, suc, _+_, _-_, _^_, _≤_, _<_, min}
+use Prim.Native.Nat.{ℕ, zero, suc, _+_, _-_, _^_, _≤_, _<_}
 use mathlib.Core.Path.{_≡_, refl, sym, ap, ap₂, _∙_, subst}
 use mathlib.Core.Bool.{Bool, false, cond, true≢false}
 use mathlib.Core.List.{List, [], _∷_, _++_, map}
@@ -9,7 +9,6 @@ use lib.ListN.{length, take, drop, length-append, length-drop, length-map}
 use lib.Seq.{drop-drop}
 use Rattle.refusals.specs.Refusal.{numberOf}
 use Rattle.framing.specs.Words.{empty, filler}
-use Rattle.raw.specs.declared.pair.SamplePair.{SamplePair}
 use Rattle.items.specs.Items.{wordOf, wordsOf, formOf, cleanOf}
 use Rattle.items.specs.declared.Item.{Item}
 use Rattle.items.specs.declared.Item.the-variants as I
@@ -23,7 +22,7 @@ use Rattle.records.specs.declared.answer.Record.the-variants as R
 use Rattle.records.specs.declared.answer.Next.{Next}
 use Rattle.records.specs.declared.answer.Next.the-variants as N
 use Rattle.rawitems.specs.Pairs.{partOf}
-use Rattle.records.specs.Next.{mostCount, startsPair, PairsMade, Made, OfRaw, nextFrom, nextAt}
+use Rattle.records.specs.Next.{startsPair, PairsMade, ScalersMade, Made, OfRaw, nextFrom, nextAt}
 use Rattle.records.specs.NextLaws.{SaysNext, next-says}
 use Rattle.state.specs.declared.State.{State}
 use Rattle.writer.specs.declared.Finished.{Finished}
@@ -33,7 +32,7 @@ use Rattle.layout.specs.NothingLost.{AllWords, Spell, nothing-lost}
 use Rattle.layout.specs.FirstWrong.{placeOf, place-counts, place-small}
 use Rattle.claims.specs.Run.{Run}
 use Rattle.claims.specs.RunLaws.{run-reads-back}
-use Rattle.claims.specs.Reads.{PartRead, Reads, at-end, took}
+use Rattle.claims.specs.Reads.{PartRead, ScalersRead, Reads, at-end, took}
 
 -- ---- a record is made of one item at least
 
@@ -56,8 +55,10 @@ made-some place (R.Pedestal r) items m = one-item _ _ m
 made-some place (R.Trailer r) items m = one-item _ _ m
 made-some place (R.Fillers slot n) items m = m .some
 made-some place (R.Empty r) items m = one-item _ _ m
+made-some place (R.Scalers p) items m = one-item _ _ (m .all)
+made-some place (R.Scaler r) items m = one-item _ _ m
 
--- ---- the part of a raw item
+-- ---- the part of a raw item, and of an event's scalers
 
 -- a record's word as it is written has no undefined bit set
 clean-word : (x : Item) → wordOf x ≡ cleanOf (formOf x) (wordOf x)
@@ -76,6 +77,8 @@ clean-word (I.Time r) = refl
 clean-word (I.Pedestal r) = refl
 clean-word (I.Empty r) = omega arith
 clean-word (I.Filler r) = omega arith
+clean-word (I.Scalers r) = refl
+clean-word (I.Scaler r) = refl
 
 spell-words : (xs : List Item) → Spell xs (wordsOf xs)
 spell-words [] = tt
@@ -91,24 +94,29 @@ spell-long [] ws h = omega arith
 spell-long (x ∷ xs) [] h = absurd h
 spell-long (x ∷ xs) (w ∷ ws) h = omega (arith, spell-long xs ws (h .1))
 
-spell-pairs : (ps : List SamplePair) (rest : List Item) (ws : List ℕ) → Spell (map (λ x. I.Pair x) ps ++ rest) ws → take (length ps) ws ≡ wordsOf (map (λ x. I.Pair x) ps)
-spell-pairs [] rest ws h = refl
-spell-pairs (p ∷ ps) rest [] h = absurd h
-spell-pairs (p ∷ ps) rest (w ∷ ws) h = ap₂ (λ (v : ℕ) (l : List ℕ). v ∷ l) (sym (h .0)) (spell-pairs ps rest ws (h .1))
+-- pairs and scaler words have no undefined bits
+module _ {A : Type 0} (item : A → Item) (plain : (x : A) (w : ℕ) → cleanOf (formOf (item x)) w ≡ w) where
+  -- so the words read are theirs, bit for bit
+  spell-plain : (xs : List A) (rest : List Item) (ws : List ℕ) → Spell (map item xs ++ rest) ws → take (length xs) ws ≡ wordsOf (map item xs)
+  spell-plain [] rest ws h = refl
+  spell-plain (x ∷ xs) rest [] h = absurd h
+  spell-plain (x ∷ xs) rest (w ∷ ws) h = ap₂ (λ (v : ℕ) (l : List ℕ). v ∷ l) (sym (h .0 ∙ plain x w)) (spell-plain xs rest ws (h .1))
 
--- it lies in the words, from the place behind the head on
-part-words : (words : List ℕ) (place : ℕ) (head : Item) (ps : List SamplePair) (rest : List Item) (p : Pairs) → p .place ≡ onward place → p .count ≡ min (length ps) mostCount
-    → place + length ps + 1 < 2 ^ 32 - 1 → Spell (head ∷ (map (λ x. I.Pair x) ps ++ rest)) (drop place words) → partOf words p ≡ wordsOf (map (λ x. I.Pair x) ps)
-unfolding partOf onward
-part-words words place head ps rest p at many small h =
-    let k : p .place ≡ place + 1 = omega (arith, at) in
-    let n : p .count ≡ length ps = omega (arith, many) in
-    let pairs : List Item = map (λ x. I.Pair x) ps in
-    let m : length pairs ≡ length ps = length-map ps (λ x. I.Pair x) in
-    let l : p .place + p .count ≤ length words = omega (arith, k, n, m, spell-long (head ∷ (pairs ++ rest)) (drop place words) h, length-append pairs rest, length-drop place words) in
-    let e : drop (p .place) words ≡ drop 1 (drop place words) = ap (λ (i : ℕ). drop i words) k ∙ sym (drop-drop 1 place words) in
-    ap (λ (b : Bool). cond b (take (p .count) (drop (p .place) words)) []) (le-leb (p .place + p .count) (length words) l)
-    ∙ (ap₂ (λ (i : ℕ) (ws : List ℕ). take i ws) n e ∙ spell-pairs ps rest (drop 1 (drop place words)) (spell-drop (head ∷ []) (pairs ++ rest) (drop place words) h))
+  -- they lie in the words, from the place behind the head on
+  part-words : (words : List ℕ) (place : ℕ) (head : Item) (xs : List A) (items rest : List Item) (p : Pairs) → items ≡ head ∷ map item xs → p .place ≡ onward place
+      → p .count ≡ length xs → place + length items < 2 ^ 32 - 1 → Spell (items ++ rest) (drop place words) → partOf words p ≡ wordsOf (drop 1 items)
+  unfolding partOf onward
+  part-words words place head xs items rest p all at n small h =
+      let ys : List Item = map item xs in
+      let m : length ys ≡ length xs = length-map xs item in
+      let size : length items ≡ 1 + length xs = ap length all ∙ omega (arith, m) in
+      let k : p .place ≡ place + 1 = omega (arith, at, small, size) in
+      let spelt : Spell (head ∷ (ys ++ rest)) (drop place words) = subst (λ (l : List Item). Spell (l ++ rest) (drop place words)) all h in
+      let l : p .place + p .count ≤ length words = omega (arith, k, n, m, spell-long (head ∷ (ys ++ rest)) (drop place words) spelt, length-append ys rest, length-drop place words) in
+      let e : drop (p .place) words ≡ drop 1 (drop place words) = ap (λ (i : ℕ). drop i words) k ∙ sym (drop-drop 1 place words) in
+      ap (λ (b : Bool). cond b (take (p .count) (drop (p .place) words)) []) (le-leb (p .place + p .count) (length words) l)
+      ∙ (ap₂ (λ (i : ℕ) (ws : List ℕ). take i ws) n e ∙ spell-plain xs rest (drop 1 (drop place words)) (spell-drop (head ∷ []) (ys ++ rest) (drop place words) spelt))
+      ∙ sym (ap (λ (l : List Item). wordsOf (drop 1 l)) all)
 
 -- what is said of a raw item from how it is made
 of-raw : (place : ℕ) (r : Record) (items : List Item) (P Q : Pairs → Type 0) → Made place r items → OfRaw r P → ((head : Item) (p : Pairs) → PairsMade head place p items → P p → Q p) → OfRaw r Q
@@ -127,15 +135,23 @@ of-raw place (R.Pedestal r) items P Q m o f = tt
 of-raw place (R.Trailer r) items P Q m o f = tt
 of-raw place (R.Fillers slot n) items P Q m o f = tt
 of-raw place (R.Empty r) items P Q m o f = tt
+of-raw place (R.Scalers p) items P Q m o f = tt
+of-raw place (R.Scaler r) items P Q m o f = tt
 
+-- the part of a raw item, by how that is made
 part-read : (words : List ℕ) (place : ℕ) (items rest : List Item) (head : Item) (p : Pairs) → place + length items < 2 ^ 32 - 1 → Spell (items ++ rest) (drop place words)
     → PairsMade head (onward place) p items → startsPair rest ≡ false → PartRead words items rest p
 part-read words place items rest head p small h m stop =
-    let n : length items ≡ length (m .pairs) + 1 = ap length (m .all) ∙ omega (arith, length-map (m .pairs) (λ x. I.Pair x)) in
-    record {
-      part = part-words words place head (m .pairs) rest p (m .at) (m .many) (omega (arith, n)) (subst (λ (l : List Item). Spell (l ++ rest) (drop place words)) (m .all) h) ∙ sym (ap (λ (l : List Item). wordsOf (drop 1 l)) (m .all));
-      all = stop;
-    }
+    let n : length items ≡ 1 + length (m .pairs) = ap length (m .all) ∙ omega (arith, length-map (m .pairs) (λ x. I.Pair x)) in
+    let many : p .count ≡ length (m .pairs) = omega (arith, m .many, n, small) in
+    record { part = part-words (λ x. I.Pair x) (λ x w. refl) words place head (m .pairs) items rest p (m .all) (m .at) many small h; all = stop }
+
+-- and that of scalers
+scalers-read : (words : List ℕ) (place : ℕ) (items rest : List Item) (r : Record) → place + length items < 2 ^ 32 - 1 → Spell (items ++ rest) (drop place words)
+    → Made (onward place) r items → ScalersRead words items r
+scalers-read words place items rest r small h made p e =
+    let m : ScalersMade (onward place) p items = subst (λ (x : Record). Made (onward place) x items) e made in
+    part-words (λ x. I.Scaler x) (λ x w. refl) words place _ (m .words) items rest p (m .all) (m .at) (m .many) small h
 
 -- ---- a whole run, record by record
 
@@ -173,10 +189,11 @@ reads-from (suc most) words s xs n small h spell e = go (nextFrom s (drop (s .pl
         let at : drop (length (k .items)) (drop (s .place) words) ≡ drop (t .place) words = drop-drop (length (k .items)) (s .place) words ∙ ap (λ (i : ℕ). drop i words) place in
         let some : 1 ≤ length (k .items) = made-some _ r (k .items) (k .made) in
         let spelt : Spell (k .items ++ on .items) (drop (s .place) words) = subst (λ (l : List Item). Spell l (drop (s .place) words)) parts spell in
-        let part : OfRaw r (PartRead words (k .items) (on .items)) =
-        of-raw _ r (k .items) _ _ (k .made) (k .stop) (λ head p. part-read words (s .place) (k .items) (on .items) head p (omega (arith, size, counted s _ xs e)) spelt) in
+        let below : s .place + length (k .items) < 2 ^ 32 - 1 = omega (arith, size, small, counted s _ xs e) in
+        let part : OfRaw r (PartRead words (k .items) (on .items)) = of-raw _ r (k .items) _ _ (k .made) (k .stop) (λ head p. part-read words (s .place) (k .items) (on .items) head p below spelt) in
+        let scalers : ScalersRead words (k .items) r = scalers-read words (s .place) (k .items) (on .items) r below spelt (k .made) in
         let more : Spell (on .items) (drop (t .place) words) = subst (λ (l : List ℕ). Spell (on .items) l) at (spell-drop (k .items) (on .items) (drop (s .place) words) spelt) in
-        subst (λ (l : List Item). Reads words s l n) (sym parts) (took r (k .items) f (k .made) part (again t (on .items) (omega (arith, size, some)) more (ap (readFrom t) (sym at) ∙ rest)))
+        subst (λ (l : List Item). Reads words s l n) (sym parts) (took r (k .items) f (k .made) part scalers (again t (on .items) (omega (arith, size, some)) more (ap (readFrom t) (sym at) ∙ rest)))
     go (N.End m) f k again =
         let none : [] ≡ xs = ap (λ (r : Reading). r .items) (sym k ∙ e) in
         let same : m ≡ n = ap (λ (r : Reading). placeOf (r .out)) (sym k ∙ e) in

@@ -26,8 +26,9 @@ use Rattle.reader.specs.RunLaws.{check-reads}
 use Rattle.reader.specs.Reader.{checkFrom, Reading, Whole, readFrom}
 use Rattle.scan.specs.After.{startOf}
 use Rattle.state.specs.declared.State.{State}
+use Rattle.writer.specs.declared.Answer.{Answer}
 use Rattle.writer.specs.declared.Finished.{Finished}
-use Rattle.state.specs.State.{blockOk, stateOk, withBlock, withEvent, withMark, withClosed}
+use Rattle.state.specs.State.{blockOk, stateOk, withBlock, withEvent, withMark, withClosed, withScalers}
 use Rattle.writer.specs.Calls.{FinishSays}
 use Rattle.block.specs.Block.{blockItems, fillersTo, endItems}
 use Rattle.refusing.specs.Tables.{openBlockNumber, openEventNumber, postNumber, closingItems, closeNumber, finishNumber}
@@ -42,9 +43,14 @@ use Rattle.layout.specs.PassLaws.{both}
 use Rattle.layout.specs.Grammar.{EventTree, no-setup, setup, BlockTree, block, eventOf, eventsOf, setupOf, bodyOf, Each, EventOk, BlockOk, Widths}
 use Rattle.layout.specs.GrammarLaws.{tree-is-block}
 use Rattle.layout.specs.ParseLaws.{Parsed}
+use Rattle.numbers.specs.ScalersLaws.{Sized}
+use Rattle.numbers.specs.SizedLaws.{sized-triggered, sized-reset, sized-latched, sized-counted}
+use Rattle.owners.specs.Order.{Bench, Aside, frames, latch, reset, AsideSays}
+use Rattle.owners.specs.AsideLaws.{zero-or, asideNumber, scalersAfter, beside, aside-after, same-ranges}
+use Rattle.owners.specs.AsideLaws as A
 use Rattle.claims.specs.WrittenLaws.{TreeOf, each-append, event-made}
 use Rattle.claims.specs.Refused.{open-block-refused, close-refused, finish-refused}
-use Rattle.claims.specs.Run.{Run, opened, begun, posted, closed, not-closed, not-opened, not-finished}
+use Rattle.claims.specs.Run.{Run, opened, begun, posted, counted, closed, not-closed, not-opened, not-finished}
 
 -- ---- a block's head and end
 
@@ -145,10 +151,12 @@ whole c number events xs ok o l a =
 
 -- ---- a run
 
--- what a run leaves: the state in its ranges, the words written so far, and their records
+-- what a run leaves: the state in its ranges and of its types' sizes, the words written so far, and their records
 record Inv (s : State) (words : List ℕ) (xs : List Item) : Type 0 where
   ok : stateOk s ≡ true
   marks : length (s .posted) ≡ 16
+  thresholds : length (s .settings .thresholds) ≡ 16
+  sized : Sized (s .scalers)
   count : s .words ≡ length xs
   room : s .words ≤ length words
   front : take (s .words) words ≡ wordsOf xs
@@ -160,10 +168,10 @@ front-more words k xs ys h e =
     ap (λ (n : ℕ). take (k + n) (splice words k (wordsOf ys))) (sym (length-words ys))
     ∙ (take-splice words k (wordsOf ys) h ∙ (ap (λ (l : List ℕ). l ++ wordsOf ys) e ∙ sym (words-append xs ys)))
 
-inv-opened : (s : State) (words : List ℕ) (number events : ℕ) → openBlockNumber s (length words) number events ≡ 0
+inv-opened : (s : State) (words : List ℕ) (number events : ℕ) → length (s .settings .thresholds) ≡ 16 → Sized (s .scalers) → openBlockNumber s (length words) number events ≡ 0
     → Inv (withBlock s number events (s .words + length (blockItems (s .settings) number events))) (splice words (s .words) (wordsOf (blockItems (s .settings) number events))) (blockItems (s .settings) number events)
 unfolding withBlock
-inv-opened s words number events e =
+inv-opened s words number events t c e =
     let a : OpenBlockAccepted s (length words) number events = open-block-accepted s (length words) number events e in
     let i : IdleSays s = idle-says s (a .state) (a .turn) in
     let xs : List Item = blockItems (s .settings) number events in
@@ -173,6 +181,8 @@ inv-opened s words number events e =
     record {
       ok = open-block-kept s (length words) number events e;
       marks = refl;
+      thresholds = t;
+      sized = c;
       count = omega (arith, i .words);
       room = omega (arith, l, a .fit);
       front = front-more words (s .words) [] xs (omega (arith, a .fit)) z;
@@ -181,27 +191,79 @@ inv-opened s words number events e =
 
 inv-begun : (s : State) (words : List ℕ) (xs : List Item) (number time : ℕ) → Inv s words xs → openEventNumber s number time ≡ 0 → Inv (withEvent s number time) words xs
 unfolding withEvent
-inv-begun s words xs number time v e = record { ok = open-event-kept s number time e; marks = v .marks; count = v .count; room = v .room; front = v .front; body = v .body }
+inv-begun s words xs number time v e =
+    record {
+      ok = open-event-kept s number time e;
+      marks = v .marks;
+      thresholds = v .thresholds;
+      sized = sized-triggered (s .scalers) (v .sized);
+      count = v .count;
+      room = v .room;
+      front = v .front;
+      body = v .body;
+    }
 
 inv-posted : (s : State) (words : List ℕ) (xs : List Item) (room c : ℕ) (w : List ℕ) → Inv s words xs → postNumber s room c w ≡ 0 → Inv (withMark s (set (s .posted) c true)) words xs
 unfolding withMark
 inv-posted s words xs room c w v e =
-    record { ok = post-kept s room c w e; marks = length-set (s .posted) c true ∙ v .marks; count = v .count; room = v .room; front = v .front; body = v .body }
+    record {
+      ok = post-kept s room c w e;
+      marks = length-set (s .posted) c true ∙ v .marks;
+      thresholds = v .thresholds;
+      sized = v .sized;
+      count = v .count;
+      room = v .room;
+      front = v .front;
+      body = v .body;
+    }
 
-inv-closed : (s : State) (words : List ℕ) (xs : List Item) (store : List ℕ) → Inv s words xs → closeNumber s store (length words) ≡ 0
-    → Inv (withClosed s (s .words + length (closingItems s store))) (splice words (s .words) (wordsOf (closingItems s store))) (xs ++ closingItems s store)
+-- a call that counts changes only what is counted
+only-counts : (k : Aside) (s : State) (r : Answer) → AsideSays k s r → r .state ≡ withScalers s (scalersAfter s k)
+unfolding beside
+only-counts k s r h = ap (λ (b : Bench). b .state) (aside-after (record { state = s; store = [] }) k r h .1)
+
+-- which keeps its sizes, accepted or refused
+sized-after : (s : State) (k : Aside) → length (s .settings .thresholds) ≡ 16 → Sized (s .scalers) → Sized (scalersAfter s k)
+unfolding scalersAfter A.counted
+sized-after s k t z = zero-or (asideNumber s k) (λ e. subst Sized (sym (done _ _ e)) (go k)) (λ e. subst Sized (sym (refused (asideNumber s k) _ _ e)) z)
+  where
+    go : (k : Aside) → Sized (A.counted (s .settings .thresholds) (s .scalers) k)
+    go (frames samples) = sized-counted (s .settings .thresholds) (s .scalers) samples t z
+    go latch = sized-latched (s .scalers) z
+    go reset = sized-reset (s .scalers) z
+
+-- so a call that counts leaves what was left before it
+inv-counted : (s : State) (words : List ℕ) (xs : List Item) (k : Aside) → Inv s words xs → Inv (withScalers s (scalersAfter s k)) words xs
+unfolding withScalers
+inv-counted s words xs k v =
+    record {
+      ok = same-ranges s k ∙ v .ok;
+      marks = v .marks;
+      thresholds = v .thresholds;
+      sized = sized-after s k (v .thresholds) (v .sized);
+      count = v .count;
+      room = v .room;
+      front = v .front;
+      body = v .body;
+    }
+
+inv-closed : (s : State) (words : List ℕ) (xs : List Item) (asked : Bool) (store : List ℕ) → Inv s words xs → closeNumber s asked store (length words) ≡ 0
+    → Inv (withClosed s (s .words + length (closingItems s asked store))) (splice words (s .words) (wordsOf (closingItems s asked store))) (xs ++ closingItems s asked store)
 unfolding withClosed
-inv-closed s words xs store v e =
-    let a : CloseAccepted s store (length words) = close-accepted s store (length words) e in
+inv-closed s words xs asked store v e =
+    let a : CloseAccepted s asked store (length words) = close-accepted s asked store (length words) e in
     let o : EventSays s = event-says s (a .state) (a .turn) in
-    let ys : List Item = closingItems s store in
+    let ys : List Item = closingItems s asked store in
+    let latched = v .sized .latched in
     let n : length (wordsOf ys) ≡ length ys = length-words ys in
     let l : length (splice words (s .words) (wordsOf ys)) ≡ length words = length-splice words (s .words) (wordsOf ys) (omega (arith, n, a .fit)) in
-    let k : stateOk (withClosed s (s .words + length ys)) ≡ true = closing-kept s store (length words) (omega (arith, v .marks)) e in
-    let w = event-made (s .settings) (s .event) (s .time) (s .posted) store (state-settings s (a .state)) (o .number) (o .time) (omega (arith, v .marks)) (a .wide) (a .samples) in
+    let k : stateOk (withClosed s (s .words + length ys)) ≡ true = closing-kept s asked store (length words) (omega (arith, v .marks)) (latched .0) e in
+    let w = event-made (s .settings) (s .event) (s .time) (s .posted) store asked (s .scalers .latched) (state-settings s (a .state)) (o .number) (o .time) (omega (arith, v .marks)) (a .wide) (a .samples) (latched .0) (latched .1) in
     record {
       ok = k;
       marks = refl;
+      thresholds = v .thresholds;
+      sized = v .sized;
       count = omega (arith, v .count, length-append xs ys);
       room = omega (arith, l, a .fit);
       front = front-more words (s .words) xs ys (v .room) (v .front);
@@ -217,16 +279,17 @@ inv-either zero h v f = inv-same h refl (f refl)
 inv-either (suc n) h v f = inv-same (h ∙ refused (suc n) _ _ (λ z. omega (arith, z))) refl v
 
 run-leaves : {s : State} {words : List ℕ} {xs : List Item} → Run s words xs → Inv s words xs
-run-leaves (opened s words number events r words′ h e) =
+run-leaves (opened s words number events r words′ t c h e) =
     let n : openBlockNumber s (length words) number events ≡ 0 = sym (h .refusal) ∙ e in
-    inv-same (h .state ∙ done _ _ n) (h .buffer ∙ done _ _ n) (inv-opened s words number events n)
+    inv-same (h .state ∙ done _ _ n) (h .buffer ∙ done _ _ n) (inv-opened s words number events t c n)
 run-leaves (begun {s} {words} {xs} run number time r h) = let v = run-leaves run in inv-either (openEventNumber s number time) (h .state) v (inv-begun s words xs number time v)
 run-leaves (posted {s} {words} {xs} run store c w r store′ h) =
     let v = run-leaves run in inv-either (postNumber s (length store) c w) (h .state) v (inv-posted s words xs (length store) c w v)
-run-leaves (closed {s} {words} {xs} run store r words′ h e) =
-    let n : closeNumber s store (length words) ≡ 0 = sym (h .refusal) ∙ e in
-    inv-same (h .state ∙ done _ _ n) (h .buffer ∙ done _ _ n) (inv-closed s words xs store (run-leaves run) n)
-run-leaves (not-closed {s} {words} {xs} run store r words′ h e) = let k = close-refused s store words r words′ h e in inv-same (k .0) (k .1) (run-leaves run)
+run-leaves (counted {s} {words} {xs} run k r h) = inv-same (only-counts k s r h) refl (inv-counted s words xs k (run-leaves run))
+run-leaves (closed {s} {words} {xs} run store asked r words′ h e) =
+    let n : closeNumber s asked store (length words) ≡ 0 = sym (h .refusal) ∙ e in
+    inv-same (h .state ∙ done _ _ n) (h .buffer ∙ done _ _ n) (inv-closed s words xs asked store (run-leaves run) n)
+run-leaves (not-closed {s} {words} {xs} run store asked r words′ h e) = let k = close-refused s store words asked r words′ h e in inv-same (k .0) (k .1) (run-leaves run)
 run-leaves (not-opened {s} {words} {xs} run number events r words′ h e) = let k = open-block-refused s words number events r words′ h e in inv-same (k .0) (k .1) (run-leaves run)
 run-leaves (not-finished {s} {words} {xs} run r words′ h e) = let k = finish-refused s words r words′ h e in inv-same (k .0) (k .1) (run-leaves run)
 

@@ -1,8 +1,8 @@
--- The bench's runs A and b to i, as rows of one table, and what a row says. Assumes nothing.
+-- The bench's runs A and b to i, and run A with scalers, as rows of one table, and what a row says. Assumes nothing.
 use Prim.Native.Nat.{ℕ, _-_, _*_}
 use Prim.Native.String.{String}
 use mathlib.Core.Path.{_≡_}
-use mathlib.Core.Bool.{Bool, true, cond}
+use mathlib.Core.Bool.{Bool, true, false, cond}
 use mathlib.Core.List.{List, [], _∷_, _++_, map}
 use lib.Dec.{eqb}
 use lib.ListN.{length, getD, set, replicate}
@@ -16,13 +16,15 @@ use Rattle.reader.specs.Reader.{Whole, readFrom}
 use Rattle.scan.specs.After.{startOf}
 use Rattle.modes.specs.Channel.{commonOf, channelItems}
 use Rattle.event.specs.Event.{timeItems}
+use Rattle.tail.specs.Tail.{tailItems}
 use Rattle.writer.specs.declared.Answer.{Answer}
 use Rattle.writer.specs.declared.Finished.{Finished}
-use Rattle.writer.specs.Calls.{SetUpSays, OpenBlockSays, OpenEventSays, PostSays, FinishSays}
+use Rattle.writer.specs.Calls.{SetUpSays, OpenBlockSays, OpenEventSays, FinishSays}
 use Rattle.closing.specs.Closing.{CloseSays}
 use Rattle.block.specs.Block.{blockItems, endItems}
 use Rattle.bytecheck.specs.Check.{checkNumber}
 use Rattle.listing.specs.Listing.{listingOf}
+use Rattle.owners.specs.Order.{Bench, Post, Aside, frames, latch, PostRun}
 use Rattle.claims.specs.Bytes.{bytesOfWords, bytesOfLines}
 use Rattle.claims.specs.Reads.{Reads}
 
@@ -42,15 +44,19 @@ pub record BenchPulse : Type 0 where
   pub fine : ℕ
   pub rule : ℕ
 
--- a block of one event: its number, the event's number and time, the words that the calls leave, and the lines that the lister prints of them
+-- a block of one event: its number, the event's number and time, the calls that count while it is open, whether its scalers are asked for and what was then
+-- latched, the words that the calls leave, and the lines that the lister prints of them
 pub record BenchBlock : Type 0 where
   pub number : ℕ
   pub event : ℕ
   pub time : ℕ
+  pub asides : List Aside
+  pub asked : Bool
+  pub latched : List ℕ
   pub words : List ℕ
   pub text : List String
 
--- the paper gives a block for run A alone
+-- document 01 gives a block for run A alone; the one with scalers is made of it by document 02
 pub data InBlock : Type 0 where
   not-given : InBlock
   given : BenchBlock → InBlock
@@ -114,6 +120,9 @@ blockA =
       number = 1;
       event = 9;
       time = 256;
+      asides = [];
+      asked = false;
+      latched = [];
       words =
           0x81440101 ∷ 0x00500405 ∷ 0x91400009 ∷ 0x98000100 ∷ 0x00000000 ∷ 0xB98002BC ∷ 0xC18001B4 ∷ 0xD180B0C8 ∷ 0x89400009 ∷ 0xF9400000 ∷ [];
       text =
@@ -132,6 +141,42 @@ blockA =
 -- A. "TC 7, set 5-11, sum 700, VMIN 11, VPEAK 200, VMID 105, N1 6, fine 52."
 abbrev pub runA : BenchRun
 runA = runIn (given blockA) windowA 100 2 5 3 (pulse 7 5 11 700 11 200 105 6 6 52 4 ∷ []) (three 0 0 700 6 52 11 200 [])
+
+-- a frame: channel 3 at a value, the others at 0
+abbrev frame : ℕ → List ℕ
+frame x = set (replicate 16 0) 3 x
+
+abbrev pub framesS : List ℕ
+framesS = frame 150 ++ (frame 150 ++ (frame 50 ++ frame 150))
+
+-- run A's block with scalers: channel 3 over in three of four frames, twice "over and was not in the frame before"; one opened event, no whole group
+abbrev pub blockS : BenchBlock
+blockS =
+    record {
+      number = 1;
+      event = 9;
+      time = 256;
+      asides = frames framesS ∷ latch ∷ [];
+      asked = true;
+      latched = 0 ∷ 0 ∷ 0 ∷ 2 ∷ 0 ∷ 0 ∷ 0 ∷ 0 ∷ 0 ∷ 0 ∷ 0 ∷ 0 ∷ 0 ∷ 0 ∷ 0 ∷ 0 ∷ 0 ∷ 1 ∷ [];
+      words =
+          0x81440101 ∷ 0x00500405 ∷ 0x91400009 ∷ 0x98000100 ∷ 0x00000000 ∷ 0xB98002BC ∷ 0xC18001B4 ∷ 0xD180B0C8
+          ∷ 0xE0000012 ∷ 0 ∷ 0 ∷ 0 ∷ 2 ∷ 0 ∷ 0 ∷ 0 ∷ 0 ∷ 0 ∷ 0 ∷ 0 ∷ 0 ∷ 0 ∷ 0 ∷ 0 ∷ 0 ∷ 0 ∷ 1 ∷ 0x8940001C ∷ [];
+      text =
+          "block\t5\t1\t1"
+          ∷ "setup\t20\t2\t5"
+          ∷ "event\t9"
+          ∷ "clock\t256"
+          ∷ "integral\t3\t0\t0\t700"
+          ∷ "time\t3\t0\t0\t6\t52"
+          ∷ "ped\t3\t0\t11\t200"
+          ∷ "scalers\t0\t0\t0\t2\t0\t0\t0\t0\t0\t0\t0\t0\t0\t0\t0\t0\t0\t1"
+          ∷ "end\t28"
+          ∷ [];
+    }
+
+abbrev pub runS : BenchRun
+runS = runIn (given blockS) windowA 100 2 5 3 (runA .pulses) (runA .written)
 
 unfoldable pub rows : List BenchRun
 rows =
@@ -176,6 +221,8 @@ rows =
     ∷ run (512 ∷ 512 ∷ 512 ∷ 512 ∷ 10 ∷ 10 ∷ 10 ∷ 10 ∷ 600 ∷ 800 ∷ 700 ∷ 5 ∷ 5 ∷ 5 ∷ 5 ∷ 5 ∷ []) 550 2 5 3
     (pulse 9 7 13 2130 512 800 656 9 9 17 4 ∷ [])
     (three 0 0 2130 9 17 511 800 [])
+    -- 02: "On request a closed event ends with type 12 .. and the latched words: channels 0 to 15, timer, triggers."
+    ∷ runS
     ∷ []
 
 -- ---- what a row says
@@ -188,26 +235,37 @@ asBench w p =
     pulse (p .tc) (p .first) (p .last) (p .sum) (p .time .vmin) (p .time .vpeak) (cond edge mid 0) (cond edge (T.n1 w mid (T.firstFall w (p .tc) - 1)) 0) (p .time .coarse) (p .time .fine)
     (T.ruleNumber (p .time .rule))
 
--- the six calls, each from the state and the buffers that the one before left; the store and the word buffer are as long as they must be, all zero
-pub record CallsOf (r : BenchRun) (k : BenchBlock) (a b c d e : Answer) (f : Finished) (store words words′ words″ : List ℕ) : Type 0 where
-  pub setUp : SetUpSays (r .settings) a
-  pub openBlock : OpenBlockSays (a .state) (replicate (length (k .words)) 0) (k .number) 1 b words
-  pub openEvent : OpenEventSays (b .state) (k .event) (k .time) c
-  pub post : PostSays (c .state) (replicate (16 * r .settings .nw) 0) (r .channel) (r .window) d store
-  pub close : CloseSays (d .state) store words e words′
-  pub finish : FinishSays (e .state) words′ f words″
+-- the calls, each from the state and the buffers that the one before left, those that count before or behind the post; the store and the word buffer are as
+-- long as they must be, all zero
+pub record CallsOf (r : BenchRun) (k : BenchBlock) : Type 0 where
+  pub ready : Answer
+  pub setUp : SetUpSays (r .settings) ready
+  pub block : Answer
+  pub head : List ℕ
+  pub openBlock : OpenBlockSays (ready .state) (replicate (length (k .words)) 0) (k .number) 1 block head
+  pub event : Answer
+  pub openEvent : OpenEventSays (block .state) (k .event) (k .time) event
+  pub answers : List (Post × ℕ)
+  pub told : List ℕ
+  pub end : Bench
+  pub post : PostRun (record { state = event .state; store = replicate (16 * r .settings .nw) 0 }) (record { channel = r .channel; window = r .window } ∷ []) answers (k .asides) told end
+  pub closed : Answer
+  pub written : List ℕ
+  pub close : CloseSays (end .state) (end .store) head (k .asked) closed written
+  pub finished : Finished
+  pub left : List ℕ
+  pub finish : FinishSays (closed .state) written finished left
 
--- the block's records: its head, the event's, those of the channel, its end
+-- the block's records: its head, the event's, those of the channel, the scalers if asked for, its end
 abbrev pub runRecords : BenchRun → BenchBlock → List Item
 runRecords r k =
     let s : Settings = r .settings in
-    let front : List Item = blockItems s (k .number) 1 ++ (I.Event (record { slot = s .slot; number = k .event }) ∷ (timeItems (s .times) (k .time) ++ r .written)) in
+    let front : List Item = blockItems s (k .number) 1 ++ (I.Event (record { slot = s .slot; number = k .event }) ∷ (timeItems (s .times) (k .time) ++ (r .written ++ tailItems (k .asked) (k .latched)))) in
     front ++ endItems s (length front)
 
 pub record BlockHolds (r : BenchRun) (k : BenchBlock) : Type 0 where
   -- whatever the calls' statements allow: the words left, and the length that finish answers
-  pub called : {a b c d e : Answer} {f : Finished} {store words words′ words″ : List ℕ} → CallsOf r k a b c d e f store words words′ words″
-      → (words″ ≡ k .words) × (f .length ≡ length (k .words))
+  pub called : (x : CallsOf r k) → (x .left ≡ k .words) × (x .finished .length ≡ length (k .words))
   -- the reader takes the words, and answers every record as it was written, `next` too
   pub taken : readFrom startOf (k .words) ≡ record { items = runRecords r k; out = Whole (length (k .words)) }
   pub answered : Reads (k .words) startOf (runRecords r k) (length (k .words))
@@ -229,5 +287,5 @@ pub record Holds (r : BenchRun) : Type 0 where
 
 -- a proof that computes opens this file and what it leans on by one name
 unfoldable pub allOpen : Unit {0}
-unfolding settingsOf rows asBench Rattle.timing.specs.Time.allOpen Rattle.find.specs.Call.allOpen Rattle.reader.specs.Reader.allOpen Rattle.scan.specs.After.allOpen Rattle.modes.specs.Channel.allOpen Rattle.event.specs.Event.allOpen Rattle.writer.specs.Calls.allOpen Rattle.block.specs.Block.allOpen Rattle.bytecheck.specs.Check.allOpen Rattle.listing.specs.Listing.allOpen Rattle.claims.specs.Bytes.allOpen Rattle.claims.specs.Reads.allOpen
+unfolding settingsOf rows asBench Rattle.timing.specs.Time.allOpen Rattle.find.specs.Call.allOpen Rattle.reader.specs.Reader.allOpen Rattle.scan.specs.After.allOpen Rattle.modes.specs.Channel.allOpen Rattle.event.specs.Event.allOpen Rattle.tail.specs.Tail.allOpen Rattle.writer.specs.Calls.allOpen Rattle.counting.specs.Counting.allOpen Rattle.block.specs.Block.allOpen Rattle.bytecheck.specs.Check.allOpen Rattle.listing.specs.Listing.allOpen Rattle.claims.specs.Bytes.allOpen Rattle.claims.specs.Reads.allOpen
 allOpen = tt

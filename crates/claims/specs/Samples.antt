@@ -21,7 +21,7 @@ use Rattle.modes.specs.Channel.{commonOf, pulsesOf}
 use Rattle.rows.specs.Rows.{row}
 use Rattle.state.specs.declared.State.{State}
 use Rattle.claims.specs.Reads.{Reads, at-end, took}
-use Rattle.claims.specs.Run.{Run, opened, begun, posted, closed, not-closed, not-opened, not-finished}
+use Rattle.claims.specs.Run.{Run, opened, begun, posted, counted, closed, not-closed, not-opened, not-finished}
 
 -- ---- read back
 
@@ -42,11 +42,13 @@ recordSamples words (R.Pedestal r) = []
 recordSamples words (R.Trailer r) = []
 recordSamples words (R.Fillers slot n) = []
 recordSamples words (R.Empty r) = []
+recordSamples words (R.Scalers p) = []
+recordSamples words (R.Scaler r) = []
 
 -- of all records that `next` answers, in order
 unfoldable pub samplesRead : {words : List ℕ} {s : Scan} {xs : List Item} {n : ℕ} → Reads words s xs n → List (Item × List ℕ)
 samplesRead (at-end n e) = []
-samplesRead {words} (took r items e m p more) = recordSamples words r ++ samplesRead more
+samplesRead {words} (took r items e m p q more) = recordSamples words r ++ samplesRead more
 
 -- ---- sent
 
@@ -78,10 +80,11 @@ windowsSent s windows c (suc n) = windowSent s c (windows c) ++ windowsSent s wi
 
 -- by a run of calls: what its closes send, each of the store then lent
 unfoldable pub samplesSent : {s : State} {words : List ℕ} {xs : List Item} → Run s words xs → List (Item × List ℕ)
-samplesSent (opened s words number events r words′ h e) = []
+samplesSent (opened s words number events r words′ t c h e) = []
 samplesSent (begun run number time r h) = samplesSent run
 samplesSent (posted run store c w r store′ h) = samplesSent run
-samplesSent (closed {s} run store r words′ h e) = samplesSent run ++ rowsSent (s .settings) store 0 (s .posted)
-samplesSent (not-closed run store r words′ h e) = samplesSent run
+samplesSent (counted run k r h) = samplesSent run
+samplesSent (closed {s} run store asked r words′ h e) = samplesSent run ++ rowsSent (s .settings) store 0 (s .posted)
+samplesSent (not-closed run store asked r words′ h e) = samplesSent run
 samplesSent (not-opened run number events r words′ h e) = samplesSent run
 samplesSent (not-finished run r words′ h e) = samplesSent run

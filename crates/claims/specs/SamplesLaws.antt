@@ -32,6 +32,7 @@ use Rattle.modes.specs.Channel.{windowItems, modeTable, rowOfMode, partsOf, pul
 use Rattle.pulse.specs.Pulse.{setOf, rawItems, integralItem, timeItem, pedestalItem, pulseItems}
 use Rattle.rows.specs.Rows.{row, rowsOk}
 use Rattle.event.specs.Event.{timeItems, channelsItems, eventItems}
+use Rattle.tail.specs.Tail.{scalerItems, tailItems}
 use Rattle.state.specs.declared.State.{State}
 use Rattle.writer.specs.declared.Finished.{Finished}
 use Rattle.block.specs.Block.{blockItems, fillersTo, endItems}
@@ -43,11 +44,12 @@ use Rattle.layout.specs.Grammar.{Each}
 use Rattle.claims.specs.WrittenLaws.{under-set, pairs}
 use Rattle.claims.specs.Reads.{PartRead, Reads, at-end, took}
 use Rattle.claims.specs.ReadsLaws.{run-next}
-use Rattle.claims.specs.Run.{Run, opened, begun, posted, closed, not-closed, not-opened, not-finished}
+use Rattle.claims.specs.Run.{Run, opened, begun, posted, counted, closed, not-closed, not-opened, not-finished}
 use Rattle.owners.specs.Order.{Bench, Post}
 use Rattle.owners.specs.OrderLaws.{answerOf, has, run-posts}
 use Rattle.owners.specs.Own.{EventRun, settingsIn, postedWindow}
-use Rattle.owners.specs.OwnLaws.{windowFor, itemsFor, ownItems, own-records}
+use Rattle.owners.specs.OwnLaws.{windowFor, itemsFor, ownItems}
+use Rattle.owners.specs.AloneLaws.{event-records}
 use Rattle.claims.specs.Samples.{recordSamples, samplesRead, setsSent, channelSent, rowsSent, windowSent, windowsSent, samplesSent}
 
 -- ---- pairs of samples
@@ -91,6 +93,8 @@ headed (I.Time r) xs = []
 headed (I.Pedestal r) xs = []
 headed (I.Empty r) xs = []
 headed (I.Filler r) xs = []
+headed (I.Scalers r) xs = []
+headed (I.Scaler r) xs = []
 
 unfoldable among : List Item → List (Item × List ℕ)
 among [] = []
@@ -98,10 +102,14 @@ among (x ∷ xs) = headed x xs ++ among xs
 
 -- ---- read back: the samples among the records read
 
-pairs-pass : (ps : List SamplePair) (rest : List Item) → among (map (λ x. I.Pair x) ps ++ rest) ≡ among rest
+-- items that head no samples
+pass : {A : Type 0} (item : A → Item) → ((x : A) (xs : List Item) → headed (item x) xs ≡ []) → (l : List A) (rest : List Item) → among (map item l ++ rest) ≡ among rest
 unfolding among
-pairs-pass [] rest = refl
-pairs-pass (p ∷ ps) rest = pairs-pass ps rest
+pass item h [] rest = refl
+pass item h (x ∷ l) rest = ap₂ (λ (a b : List (Item × List ℕ)). a ++ b) (h x (map item l ++ rest)) (pass item h l rest)
+
+pairs-pass : (ps : List SamplePair) (rest : List Item) → among (map (λ x. I.Pair x) ps ++ rest) ≡ among rest
+pairs-pass ps rest = pass (λ x. I.Pair x) (λ x xs. refl) ps rest
 
 pairs-first : (ps : List SamplePair) (rest : List Item) → startsPair rest ≡ false → pairsAt (map (λ x. I.Pair x) ps ++ rest) ≡ map (λ x. I.Pair x) ps
 pairs-first [] [] h = refl
@@ -140,11 +148,13 @@ record-among words place (R.Pedestal r) items rest m o = rw m
 record-among words place (R.Trailer r) items rest m o = rw m
 record-among words place (R.Fillers slot n) items rest m o = fillers-pass slot items rest (m .all)
 record-among words place (R.Empty r) items rest m o = rw m
+record-among words place (R.Scalers p) items rest m o = ap (λ (l : List Item). among (l ++ rest)) (m .all) ∙ pass (λ x. I.Scaler x) (λ x xs. refl) (m .words) rest
+record-among words place (R.Scaler r) items rest m o = rw m
 
 read-among : {words : List ℕ} {s : Scan} {xs : List Item} {n : ℕ} (read : Reads words s xs n) → samplesRead read ≡ among xs
 unfolding samplesRead among
 read-among (at-end n e) = refl
-read-among {words} (took {s} r items {rest} e m p more) =
+read-among {words} (took {s} r items {rest} e m p q more) =
     ap (λ (l : List (Item × List ℕ)). recordSamples words r ++ l) (read-among more) ∙ sym (record-among words _ r items rest m p)
 
 -- ---- sent: the samples among the records written
@@ -258,12 +268,29 @@ channels-send s store c (b ∷ marks) h = carry-append (here b (and-left (not b 
     here true e = channel-sends s c (row (s .nw) c store) (under 8191 (row (s .nw) c store) e)
     here false e = carry-none
 
-close-sends : (s : State) (store : List ℕ) (room : ℕ) → closeNumber s store room ≡ 0 → Carry (closingItems s store) (rowsSent (s .settings) store 0 (s .posted))
-unfolding eventItems timeItems
-close-sends s store room e =
-    carry-append (carry-bare _ refl (λ xs. refl))
-    (carry-append (carry-append (carry-item (leb 1 (s .settings .times)) _ refl (λ xs. refl)) (carry-item (leb 2 (s .settings .times)) _ refl (λ xs. refl)))
-    (channels-send (s .settings) store 0 (s .posted) (close-accepted s store room e .samples)))
+-- an event's header and time words have none
+event-sends : (slot number times time : ℕ) {xs : List Item} {sent : List (Item × List ℕ)} → Carry xs sent → Carry (I.Event (record { slot = slot; number = number }) ∷ (timeItems times time ++ xs)) sent
+unfolding timeItems
+event-sends slot number times time c =
+    carry-append (carry-bare _ refl (λ xs. refl)) (carry-append (carry-append (carry-item (leb 1 times) _ refl (λ xs. refl)) (carry-item (leb 2 times) _ refl (λ xs. refl))) c)
+
+-- so its records carry the posted rows
+records-send : (s : State) (store : List ℕ) → rowsOk (s .settings .nw) store 0 (s .posted) ≡ true
+    → Carry (eventItems (s .settings) (s .event) (s .time) (s .posted) store) (rowsSent (s .settings) store 0 (s .posted))
+unfolding eventItems
+records-send s store h = event-sends (s .settings .slot) (s .event) (s .settings .times) (s .time) (channels-send (s .settings) store 0 (s .posted) h)
+
+-- its scalers have none
+tail-sends : (asked : Bool) (latched : List ℕ) → Carry (tailItems asked latched) []
+unfolding tailItems scalerItems among
+tail-sends true latched = record { first = λ ys h. refl; all = λ ys h. pass (λ n. I.Scaler (record { value = n })) (λ n xs. refl) latched ys }
+tail-sends false latched = carry-none
+
+-- so a close sends the posted rows, whether scalers were asked for or not
+close-sends : (s : State) (asked : Bool) (store : List ℕ) (room : ℕ) → closeNumber s asked store room ≡ 0 → Carry (closingItems s asked store) (rowsSent (s .settings) store 0 (s .posted))
+close-sends s asked store room e =
+    subst (λ (l : List (Item × List ℕ)). Carry (closingItems s asked store) l) (append-nil (rowsSent (s .settings) store 0 (s .posted)))
+    (carry-append (records-send s store (close-accepted s asked store room e .samples)) (tail-sends asked (s .scalers .latched)))
 
 open-sends : (c : Settings) (number events : ℕ) → Carry (blockItems c number events) []
 unfolding blockItems
@@ -279,11 +306,12 @@ end-sends c words = carry-append (carry-bare _ refl (λ xs. refl)) (go (fillersT
 
 run-sends : {s : State} {words : List ℕ} {xs : List Item} (run : Run s words xs) → Carry xs (samplesSent run)
 unfolding samplesSent
-run-sends (opened s words number events r words′ h e) = open-sends (s .settings) number events
+run-sends (opened s words number events r words′ t c h e) = open-sends (s .settings) number events
 run-sends (begun run number time r h) = run-sends run
 run-sends (posted run store c w r store′ h) = run-sends run
-run-sends (closed {s} {words} run store r words′ h e) = carry-append (run-sends run) (close-sends s store (length words) (sym (h .refusal) ∙ e))
-run-sends (not-closed run store r words′ h e) = run-sends run
+run-sends (counted run k r h) = run-sends run
+run-sends (closed {s} {words} run store asked r words′ h e) = carry-append (run-sends run) (close-sends s asked store (length words) (sym (h .refusal) ∙ e))
+run-sends (not-closed run store asked r words′ h e) = run-sends run
 run-sends (not-opened run number events r words′ h e) = run-sends run
 run-sends (not-finished run r words′ h e) = run-sends run
 
@@ -324,15 +352,11 @@ carry-same {xs} {ys} {a} {b} e p q = sym (append-nil a) ∙ (sym (p .all [] refl
 
 -- what the close sends are the windows posted
 pub event-samples : (e : EventRun) → rowsSent (e .end .state .settings) (e .end .store) 0 (e .end .state .posted) ≡ windowsSent (settingsIn e) (postedWindow (e .answers)) 0 16
-unfolding timeItems
 event-samples e =
-    let b = e .start in
-    let r = run-posts (e .apart) (e .posted) in
     let s : Settings = settingsIn e in
-    let n : closeNumber (e .end .state) (e .end .store) (length (e .words)) ≡ 0 = sym (e .says .refusal) ∙ e .accepted in
-    let same = ap (λ (t : Bench). closingItems (t .state) (t .store)) (r .0) ∙ own-records b (e .posts) (e .opened) (e .apart) in
-    carry-same same (close-sends (e .end .state) (e .end .store) (length (e .words)) n)
-    (carry-append (carry-bare _ refl (λ xs. refl))
-    (carry-append (carry-append (carry-item (leb 1 (s .times)) _ refl (λ xs. refl)) (carry-item (leb 2 (s .times)) _ refl (λ xs. refl)))
-    (own-sends s (windowFor b (e .posts)) (window-under b (e .posts)) 0 16)))
-    ∙ ap (λ (ns : List (Post × ℕ)). windowsSent s (postedWindow ns) 0 16) (sym (r .1))
+    let n : closeNumber (e .end .state) (e .asked) (e .end .store) (length (e .words)) ≡ 0 = sym (e .says .refusal) ∙ e .accepted in
+    let a = close-accepted (e .end .state) (e .asked) (e .end .store) (length (e .words)) n in
+    let u : (c : ℕ) → Each (λ w. Under 8191 w) (postedWindow (e .answers) c) =
+    subst (λ (ns : List (Post × ℕ)). (c : ℕ) → Each (λ w. Under 8191 w) (postedWindow ns c)) (sym (run-posts (e .apart) (e .posted) .posted)) (window-under (e .start) (e .posts)) in
+    carry-same (event-records e) (records-send (e .end .state) (e .end .store) (a .samples))
+    (event-sends (s .slot) (e .opened .number) (s .times) (e .opened .time) (own-sends s (postedWindow (e .answers)) u 0 16))

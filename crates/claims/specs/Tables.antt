@@ -1,5 +1,5 @@
 -- Demand 1: "A refusal has the number our table gives, is given exactly when the table says". One law for all tables, a line for each call; the tables read in the order
--- that document 01 names; and what an accepted call gives is never refused for its ranges. Assumes nothing.
+-- that documents 01 and 02 name; and what an accepted call gives is never refused for its ranges. Assumes nothing.
 use Prim.Native.Nat.{ℕ, _≤_}
 use mathlib.Core.Path.{_≡_, refl, sym, ap, _∙_}
 use mathlib.Core.Bool.{Bool, true, false, not, cond}
@@ -29,6 +29,9 @@ use Rattle.closing.specs.Closing.{CloseSays}
 use Rattle.refusing.specs.Tables.{setUpNumber, openBlockTable, openBlockNumber, openEventTable, openEventNumber, postTable, postNumber, closeTable, closeNumber, finishTable, finishNumber}
 use Rattle.writer.specs.CallsLaws.{done}
 use Rattle.writer.specs.KeptLaws.{set-up-kept, open-block-kept, open-event-kept, post-kept, closing-kept, finish-kept}
+use Rattle.counting.specs.Counting.{countTable, countNumber, latchTable, latchNumber, resetTable, resetNumber}
+use Rattle.counting.specs.CountingLaws.{count-kept, latch-kept, reset-kept}
+use Rattle.owners.specs.Order.{Aside, frames, latch, reset, AsideSays}
 use Rattle.layout.specs.Wrong.{questions}
 
 -- ---- in the paper's order
@@ -62,13 +65,26 @@ pub post-order : (s : State) (room c : ℕ) (w : List ℕ) → Ordered (postTabl
 unfolding postTable
 post-order s room c w = refl
 
-pub close-order : (s : State) (store : List ℕ) (room : ℕ) → Ordered (closeTable s store room)
+pub close-order : (s : State) (asked : Bool) (store : List ℕ) (room : ℕ) → Ordered (closeTable s asked store room)
 unfolding closeTable
-close-order s store room = refl
+close-order s asked store room = refl
 
 pub finish-order : (s : State) (room : ℕ) → Ordered (finishTable s room)
 unfolding finishTable
 finish-order s room = refl
+
+-- the table of a call that counts
+abbrev pub asideTable : State → Aside → List (ℕ × Bool)
+asideTable s (frames samples) = countTable s samples
+asideTable s latch = latchTable s
+asideTable s reset = resetTable s
+
+-- the calls that count: 10, as at every call on a state; 02: "3, 19 frame data not a multiple of sixteen"
+pub aside-order : (s : State) (k : Aside) → inOrder (rowNumbers (asideTable s k)) (10 ∷ 3 ∷ 19 ∷ []) ≡ true
+unfolding countTable latchTable resetTable
+aside-order s (frames samples) = refl
+aside-order s latch = refl
+aside-order s reset = refl
 
 -- "refusals 1, 4, 5, 3 in that order"
 pub find-order : (s : Settings) (c : ℕ) (w : List ℕ) → rowNumbers (findTable s c w) ≡ 1 ∷ 4 ∷ 5 ∷ 3 ∷ []
@@ -111,14 +127,20 @@ pub post-exactly : (s : State) (store : List ℕ) (c : ℕ) (w : List ℕ) (r : 
 unfolding postNumber
 post-exactly s store c w r store′ h = exactly _ (h .refusal)
 
-pub close-exactly : (s : State) (store words : List ℕ) (r : Answer) (words′ : List ℕ) → CloseSays s store words r words′
-    → Exactly (closeTable s store (length words)) (numberOf (r .refusal))
+pub close-exactly : (s : State) (store words : List ℕ) (asked : Bool) (r : Answer) (words′ : List ℕ) → CloseSays s store words asked r words′
+    → Exactly (closeTable s asked store (length words)) (numberOf (r .refusal))
 unfolding closeNumber
-close-exactly s store words r words′ h = exactly _ (h .refusal)
+close-exactly s store words asked r words′ h = exactly _ (h .refusal)
 
 pub finish-exactly : (s : State) (words : List ℕ) (r : Finished) (words′ : List ℕ) → FinishSays s words r words′ → Exactly (finishTable s (length words)) (numberOf (r .refusal))
 unfolding finishNumber
 finish-exactly s words r words′ h = exactly _ (h .refusal)
+
+pub aside-exactly : (k : Aside) (s : State) (r : Answer) → AsideSays k s r → Exactly (asideTable s k) (numberOf (r .refusal))
+unfolding countNumber latchNumber resetNumber
+aside-exactly (frames samples) s r h = exactly _ (h .refusal)
+aside-exactly latch s r h = exactly _ (h .refusal)
+aside-exactly reset s r h = exactly _ (h .refusal)
 
 pub find-exactly : (s : Settings) (c : ℕ) (w : List ℕ) (r : FindAnswer) → FindSays s c w r → Exactly (findTable s c w) (numberOf (r .refusal))
 unfolding findNumber
@@ -166,11 +188,16 @@ pub post-in-range : (s : State) (store : List ℕ) (c : ℕ) (w : List ℕ) (r :
     → numberOf (r .refusal) ≡ 0 → stateOk (r .state) ≡ true
 post-in-range s store c w r store′ h z = kept _ _ (h .refusal) z (h .state) (post-kept s (length store) c w)
 
--- the marks are the sixteen of the state's array
-pub close-in-range : (s : State) (store words : List ℕ) (r : Answer) (words′ : List ℕ) → CloseSays s store words r words′ → length (s .posted) ≤ 16
-    → numberOf (r .refusal) ≡ 0 → stateOk (r .state) ≡ true
-close-in-range s store words r words′ h m z = kept _ _ (h .refusal) z (h .state) (closing-kept s store (length words) m)
+-- the marks are the sixteen, and the latched counts the eighteen, of the state's arrays
+pub close-in-range : (s : State) (store words : List ℕ) (asked : Bool) (r : Answer) (words′ : List ℕ) → CloseSays s store words asked r words′ → length (s .posted) ≤ 16
+    → length (s .scalers .latched) ≡ 18 → numberOf (r .refusal) ≡ 0 → stateOk (r .state) ≡ true
+close-in-range s store words asked r words′ h m l z = kept _ _ (h .refusal) z (h .state) (closing-kept s asked store (length words) m l)
 
 pub finish-in-range : (s : State) (words : List ℕ) (r : Finished) (words′ : List ℕ) → FinishSays s words r words′ → numberOf (r .refusal) ≡ 0
     → stateOk (r .state) ≡ true
 finish-in-range s words r words′ h z = kept _ _ (h .refusal) z (h .state) (finish-kept s (length words))
+
+pub aside-in-range : (k : Aside) (s : State) (r : Answer) → AsideSays k s r → numberOf (r .refusal) ≡ 0 → stateOk (r .state) ≡ true
+aside-in-range (frames samples) s r h z = kept _ _ (h .refusal) z (h .state) (count-kept s samples)
+aside-in-range latch s r h z = kept _ _ (h .refusal) z (h .state) (latch-kept s)
+aside-in-range reset s r h z = kept _ _ (h .refusal) z (h .state) (reset-kept s)

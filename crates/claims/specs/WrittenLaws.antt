@@ -8,7 +8,7 @@ use borrow.Author.Tests.{le-leb}
 use lib.Dec.{leb, ltb}
 use lib.ListN.{length, getD, take, drop, length-take, length-drop}
 use Rattle.limits.specs.Limits.{mostSamples}
-use Rattle.limits.specs.LimitsLaws.{most-samples, pairs-is, most-pairs}
+use Rattle.limits.specs.LimitsLaws.{most-samples, most-pairs}
 use Rattle.ground.specs.TestsLaws.{Under, under, and-left, and-right}
 use Rattle.settings.specs.declared.Settings.{Settings}
 use Rattle.settings.specs.Ranges.{settingsOk}
@@ -17,6 +17,9 @@ use Rattle.samples.specs.Sample.{samplesOk}
 use Rattle.finder.specs.declared.Pulse.{Pulse}
 use Rattle.search.specs.Search.{anyOver}
 use Rattle.finder.specs.RangeLaws.{PulseFits, EachFits, pulses-fit, pulses-count}
+use Rattle.framing.specs.declared.event_header.EventHeader.{EventHeader}
+use Rattle.framing.specs.declared.scalers.ScalerHeader.{ScalerHeader}
+use Rattle.framing.specs.declared.scaler.ScalerWord.{ScalerWord}
 use Rattle.framing.specs.Words as W
 use Rattle.raw.specs.declared.pair.SamplePair.{SamplePair}
 use Rattle.raw.specs.Words as R
@@ -32,8 +35,10 @@ use Rattle.pulse.specs.PulseLaws.{length-set}
 use Rattle.rows.specs.Rows.{row, rowsOk}
 use Rattle.event.specs.Event.{timeItems, channelsItems, eventItems}
 use Rattle.rows.specs.RowsLaws.{row-end}
+use Rattle.tail.specs.Tail.{wordItems, scalerItems, tailItems}
+use Rattle.places.specs.Places.{most32}
 use Rattle.layout.specs.PassLaws.{both}
-use Rattle.layout.specs.Grammar.{Piece, window, raw, integral, time, pedestal, Clock, no-clock, clock27, clock48, eachPair, pieceOf, piecesOf, clockOf, eventOf, Each, BothValid, OddEnd, full, short, WindowPairs, RawPairs, PieceOk, ClockOk, EventOk, Widths}
+use Rattle.layout.specs.Grammar.{Piece, window, raw, integral, time, pedestal, Clock, no-clock, clock27, clock48, no-scalers, scalers, eachPair, pieceOf, piecesOf, clockOf, eachScaler, tailOf, eventOf, Each, BothValid, OddEnd, full, short, WindowPairs, RawPairs, PieceOk, ClockOk, TailOk, EventOk, Widths}
 
 -- the records of a tree that is as asked, every field within its bits
 pub record TreeOf {A : Type 0} (of : A → List Item) (ok : A → Type 0) (xs : List Item) : Type 0 where
@@ -222,17 +227,43 @@ clock-made times t m h = go times m
     go (suc (suc zero)) m = record { tree = clock48 _ _; fine = refl; are = refl; widths = (low, (le-leb (t / 2 ^ 24) 16777215 (omega arith), tt)) }
     go (suc (suc (suc n))) m = absurd (omega arith)
 
--- what a close writes
-pub event-made : (c : Settings) (number t : ℕ) (posted : List Bool) (store : List ℕ) → settingsOk c ≡ true → number ≤ 4194303 → t ≤ 2 ^ 48 - 1 → length posted ≤ 16
-    → 16 * c .nw ≤ length store → rowsOk (c .nw) store 0 posted ≡ true → TreeOf eventOf (EventOk (c .slot)) (eventItems c number t posted store)
+-- the latched words, a record each
+words-made : (latched : List ℕ) → Under most32 latched → TreeOf eachScaler (λ (ws : List ScalerWord). length ws ≡ length latched) (wordItems latched)
+unfolding fits W.scaler
+words-made [] u = record { tree = []; fine = refl; are = refl; widths = tt }
+words-made (n ∷ latched) u =
+    let m = words-made latched (u .1) in
+    let w : ScalerWord = record { value = n } in
+    record { tree = w ∷ m .tree; fine = ap suc (m .fine); are = ap (λ (l : List Item). I.Scaler w ∷ l) (m .are); widths = (le-leb n most32 (u .0), m .widths) }
+
+-- what an event ends with
+tail-made : (asked : Bool) (latched : List ℕ) → length latched ≡ 18 → Under most32 latched → TreeOf tailOf TailOk (tailItems asked latched)
+unfolding tailItems scalerItems fits W.scalers
+tail-made true latched z u =
+    let m = words-made latched u in
+    let h : ScalerHeader = record { count = 18 } in
+    record { tree = scalers h (m .tree); fine = m .fine ∙ z; are = ap (λ (l : List Item). I.Scalers h ∷ l) (m .are); widths = (refl, m .widths) }
+tail-made false latched z u = record { tree = no-scalers; fine = tt; are = refl; widths = tt }
+
+-- what a close writes, its scalers asked for or not
+pub event-made : (c : Settings) (number t : ℕ) (posted : List Bool) (store : List ℕ) (asked : Bool) (latched : List ℕ) → settingsOk c ≡ true → number ≤ 4194303 → t ≤ 2 ^ 48 - 1 → length posted ≤ 16
+    → 16 * c .nw ≤ length store → rowsOk (c .nw) store 0 posted ≡ true → length latched ≡ 18 → Under most32 latched
+    → TreeOf eventOf (EventOk (c .slot)) (eventItems c number t posted store ++ tailItems asked latched)
 unfolding eventItems fits W.eventHeader
-event-made c number t posted store ok n m k z q =
+event-made c number t posted store asked latched ok n m k z q size u =
     let r : InRange c = settings-in-range c ok in
     let a = clock-made (c .times) t (r .times) m in
     let b = channels-made c store 0 posted ok (omega arith) z q in
+    let d = tail-made asked latched size u in
+    let h : EventHeader = record { slot = c .slot; number = number } in
+    let times = timeItems (c .times) t in
+    let rest = channelsItems c store 0 posted in
+    let last = tailItems asked latched in
+    let parts : clockOf (a .tree) ++ (piecesOf (b .tree) ++ tailOf (d .tree)) ≡ (times ++ rest) ++ last =
+    ap₂ (λ (l m : List Item). l ++ m) (a .are) (ap₂ (λ (l m : List Item). l ++ m) (b .are) (d .are)) ∙ sym (append-assoc times rest last) in
     record {
-      tree = record { header = record { slot = c .slot; number = number }; clock = a .tree; pieces = b .tree };
-      fine = record { slot = refl; clock = a .fine; pieces = b .fine };
-      are = ap₂ (λ (l m : List Item). I.Event (record { slot = c .slot; number = number }) ∷ (l ++ m)) (a .are) (b .are);
-      widths = (both (le-leb (c .slot) 31 (r .slot)) (le-leb number 4194303 n), each-append _ (timeItems (c .times) t) (channelsItems c store 0 posted) (a .widths) (b .widths));
+      tree = record { header = h; clock = a .tree; pieces = b .tree; tail = d .tree };
+      fine = record { slot = refl; clock = a .fine; pieces = b .fine; tail = d .fine };
+      are = ap (λ (l : List Item). I.Event h ∷ l) parts;
+      widths = (both (le-leb (c .slot) 31 (r .slot)) (le-leb number 4194303 n), each-append _ (times ++ rest) last (each-append _ times rest (a .widths) (b .widths)) (d .widths));
     }

@@ -14,6 +14,7 @@ fn event_closed(state: State, words: usize) -> State
     ensures { λ r. ⌜ r ≡ withClosed state words ⌝ }
 {
     let settings = state.settings;
+    let scalers = state.scalers;
     let unposted = [false; 16];
     State {
         settings,
@@ -25,12 +26,14 @@ fn event_closed(state: State, words: usize) -> State
         posted: unposted,
         closed: state.closed + 1,
         words,
+        scalers,
     }
 }
 
-// Closes the event: writes its words behind those already there. They are written all or not at all, so the place tells whether there was room.
-pub fn close(state: State, store: &[u16], words: &mut [u32]) -> Answer
-    ensures { λ r. ⌜ CloseSays state (now (store .entry)) (now (words .entry)) r (now (words .exit)) ⌝ }
+// Closes the event: writes its words behind those already there, at their end its scalers if they are asked for. They are
+// written all or not at all, so the place tells whether there was room.
+pub fn close(state: State, store: &[u16], words: &mut [u32], asked: bool) -> Answer
+    ensures { λ r. ⌜ CloseSays state (now (store .entry)) (now (words .entry)) asked r (now (words .exit)) ⌝ }
 {
     let refusal = refusing::close_check(state, store);
     if !refusals::accepted(refusal) {
@@ -38,8 +41,20 @@ pub fn close(state: State, store: &[u16], words: &mut [u32]) -> Answer
     }
     let settings = state.settings;
     let posted = state.posted;
+    let scalers = state.scalers;
+    let latched = scalers.latched;
     let at = state.words;
-    let next = event::put_event(words, at, settings, state.event, state.time, &posted, store);
+    let next = event::put_event(
+        words,
+        at,
+        settings,
+        state.event,
+        state.time,
+        &posted,
+        store,
+        asked,
+        latched,
+    );
     if next == at {
         return Answer {
             refusal: Refusal::Room,

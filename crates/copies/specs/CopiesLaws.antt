@@ -19,3 +19,6 @@ room-left room at count h = same-test count (room - at) (at + count) room (λ k.
 
 pub pasted-fits : (out : List ℕ) (at : ℕ) (new : List ℕ) → at + length new ≤ length out → pasted out at new ≡ splice out at new
 pasted-fits out at new h = rw (le-leb _ _ h)
+
+pub pasted-none : (out : List ℕ) (at : ℕ) (new : List ℕ) → length out < at + length new → pasted out at new ≡ out
+pasted-none out at new h = rw (lt-leb (at + length new) (length out) h)

@@ -35,7 +35,7 @@ scanCount = 6
 
 -- ---- the numbers of a scan
 
--- the stages in the order in which a block comes to them
+-- the stages in the order in which a block comes to them; an event's scalers, of document 02, are the last
 abbrev pub stageNumber : Stage → ℕ
 stageNumber P.Start = 0
 stageNumber P.Head = 1
@@ -46,9 +46,10 @@ stageNumber P.Items = 5
 stageNumber (P.Window pairs odd) = 6
 stageNumber (P.Raw pairs some) = 7
 stageNumber (P.Tail fillers) = 8
+stageNumber (P.Scalers words) = 9
 
 abbrev pub lastStage : ℕ
-lastStage = 8
+lastStage = 9
 
 -- the number that goes with a stage, 0 where none does
 abbrev pub stageFirst : Stage → ℕ
@@ -61,6 +62,7 @@ stageFirst P.Items = 0
 stageFirst (P.Window pairs odd) = pairs
 stageFirst (P.Raw pairs some) = pairs
 stageFirst (P.Tail fillers) = fillers
+stageFirst (P.Scalers words) = words
 
 abbrev pub markNumber : Bool → ℕ
 markNumber b = cond b 1 0
@@ -76,6 +78,7 @@ stageSecond P.Items = 0
 stageSecond (P.Window pairs odd) = markNumber odd
 stageSecond (P.Raw pairs some) = markNumber some
 stageSecond (P.Tail fillers) = 0
+stageSecond (P.Scalers words) = 0
 
 unfoldable pub cursorOf : Scan → List ℕ
 cursorOf s = s .place ∷ s .slot ∷ s .left ∷ stageNumber (s .stage) ∷ stageFirst (s .stage) ∷ stageSecond (s .stage) ∷ []
@@ -97,7 +100,8 @@ stageFrom n first second =
     (cond (eqb n 5) P.Items
     (cond (eqb n 6) (P.Window first second)
     (cond (eqb n 7) (P.Raw first second)
-    (P.Tail first))))))))
+    (cond (eqb n 8) (P.Tail first)
+    (P.Scalers first)))))))))
 
 unfoldable pub scanFrom : List ℕ → Scan
 scanFrom n =

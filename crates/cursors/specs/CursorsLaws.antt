@@ -80,6 +80,7 @@ module _ (place slot left : ℕ) where
   back (P.Raw pairs true) = refl
   back (P.Raw pairs false) = refl
   back (P.Tail fillers) = refl
+  back (P.Scalers words) = refl
 
   is : (p : Stage) → isScan (cursorOf (scanAt p)) ≡ true
   unfolding isScan cursorOf scanAt
@@ -94,6 +95,7 @@ module _ (place slot left : ℕ) where
   is (P.Raw pairs true) = refl
   is (P.Raw pairs false) = refl
   is (P.Tail fillers) = refl
+  is (P.Scalers words) = refl
 
 -- a scan comes back from its numbers
 pub scan-back : (s : Scan) → scanFrom (cursorOf s) ≡ s

@@ -21,7 +21,7 @@ const SECOND: usize = 5;
 pub const SCAN: usize = SECOND + 1;
 
 // The greatest number of a stage.
-const LAST_STAGE: u32 = 8;
+const LAST_STAGE: u32 = 9;
 
 // The number at a place, 0 past the end.
 fn at(numbers: &[u32], place: usize) -> u32
@@ -56,7 +56,8 @@ fn stage_from(number: u32, first: u32, second: bool) -> Stage
         5 => Stage::Items,
         6 => Stage::Window(first, second),
         7 => Stage::Raw(first, second),
-        _ => Stage::Tail(first),
+        8 => Stage::Tail(first),
+        _ => Stage::Scalers(first),
     }
 }
 
@@ -86,6 +87,7 @@ fn stage_number(stage: Stage) -> u32
         Stage::Window(_, _) => 6,
         Stage::Raw(_, _) => 7,
         Stage::Tail(_) => 8,
+        Stage::Scalers(_) => 9,
     }
 }
 
@@ -103,6 +105,7 @@ fn stage_first(stage: Stage) -> u32
         Stage::Window(pairs, _) => pairs,
         Stage::Raw(pairs, _) => pairs,
         Stage::Tail(fillers) => fillers,
+        Stage::Scalers(words) => words,
     }
 }
 
@@ -126,6 +129,7 @@ fn stage_second(stage: Stage) -> u32
         Stage::Window(_, odd) => mark_number(odd),
         Stage::Raw(_, some) => mark_number(some),
         Stage::Tail(_) => 0,
+        Stage::Scalers(_) => 0,
     }
 }
 

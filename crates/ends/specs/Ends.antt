@@ -7,7 +7,7 @@ use lib.ListN.{replicate}
 abbrev pub recordCount : ℕ
 recordCount = 6
 
--- the kind of the block's end, behind those of the records
+-- the kind of the block's end, which is no record's
 abbrev pub endKind : ℕ
 endKind = 16
 

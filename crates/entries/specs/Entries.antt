@@ -1,12 +1,12 @@
 -- What the lister prints of one record. Assumes nothing.
 use Prim.Native.Nat.{ℕ}
-use mathlib.Core.List.{List, [], _∷_}
+use mathlib.Core.List.{List, [], _∷_, map}
 use Rattle.items.specs.declared.Item.{Item}
 use Rattle.items.specs.declared.Item.the-variants as I
-use Rattle.written.specs.Line.{Line}
+use Rattle.written.specs.Line.{Number, cellsText, Line}
 use Rattle.lines.specs.declared.Second.{Second}
 use Rattle.lines.specs.declared.Second.the-variants as S
-use Rattle.lines.specs.Lines.{blockLine, setupLine, eventLine, clockLine, windowLine, pulseLine, pairLine, integralLine, timeLine, pedLine, endLine, emptyLine}
+use Rattle.lines.specs.Lines.{blockLine, setupLine, eventLine, clockLine, windowLine, pulseLine, pairLine, integralLine, timeLine, pedLine, endLine, emptyLine, scalersLine}
 
 -- the second time word, where one follows
 abbrev pub highIn : Item → Second
@@ -24,12 +24,38 @@ highIn (I.Time r) = S.Nothing
 highIn (I.Pedestal r) = S.Nothing
 highIn (I.Empty r) = S.Nothing
 highIn (I.Filler r) = S.Nothing
+highIn (I.Scalers r) = S.Nothing
+highIn (I.Scaler r) = S.Nothing
 
 abbrev pub secondOf : List Item → Second
 secondOf [] = S.Nothing
 secondOf (x ∷ xs) = highIn x
 
--- the line of a record, by what follows it; two time words are one line, fillers are counted
+-- the scaler words that come first
+abbrev pub scalersIn : List Item → List ℕ
+scalersIn [] = []
+scalersIn (I.Block r ∷ xs) = []
+scalersIn (I.Parameters r ∷ xs) = []
+scalersIn (I.Trailer r ∷ xs) = []
+scalersIn (I.Event r ∷ xs) = []
+scalersIn (I.Clock r ∷ xs) = []
+scalersIn (I.ClockHigh r ∷ xs) = []
+scalersIn (I.Window r ∷ xs) = []
+scalersIn (I.Raw r ∷ xs) = []
+scalersIn (I.Pair r ∷ xs) = []
+scalersIn (I.Integral r ∷ xs) = []
+scalersIn (I.Time r ∷ xs) = []
+scalersIn (I.Pedestal r ∷ xs) = []
+scalersIn (I.Empty r ∷ xs) = []
+scalersIn (I.Filler r ∷ xs) = []
+scalersIn (I.Scalers r ∷ xs) = []
+scalersIn (I.Scaler r ∷ xs) = r .value ∷ scalersIn xs
+
+-- their cells
+abbrev pub scalerCells : List Item → List ℕ
+scalerCells items = cellsText (map (λ n. Number n) (scalersIn items))
+
+-- the line of a record, by what follows it; two time words are one line, so are the scalers' words, fillers are counted
 abbrev pub recordLines : Item → List Item → List Line
 recordLines (I.Block r) behind = blockLine r ∷ []
 recordLines (I.Parameters r) behind = setupLine r ∷ []
@@ -45,6 +71,8 @@ recordLines (I.Time r) behind = timeLine r ∷ []
 recordLines (I.Pedestal r) behind = pedLine r ∷ []
 recordLines (I.Empty r) behind = emptyLine r ∷ []
 recordLines (I.Filler r) behind = []
+recordLines (I.Scalers r) behind = scalersLine (scalersIn behind) ∷ []
+recordLines (I.Scaler r) behind = []
 
 -- 1 for a filler
 abbrev pub fillerIn : Item → ℕ
@@ -62,6 +90,8 @@ fillerIn (I.Time r) = 0
 fillerIn (I.Pedestal r) = 0
 fillerIn (I.Empty r) = 0
 fillerIn (I.Filler r) = 1
+fillerIn (I.Scalers r) = 0
+fillerIn (I.Scaler r) = 0
 
 -- a proof that computes opens this file and what it leans on by one name
 unfoldable pub allOpen : Unit {0}

@@ -5,8 +5,9 @@ ghost use lib.ListN.{getD};
 ghost use Rattle.reader.specs.Reader.{readFrom};
 ghost use Rattle.fields.specs.Bytes.{wordsOfBytes};
 ghost use Rattle.written.specs.Page.{put};
-ghost use Rattle.written.specs.Line.{textOf};
-ghost use Rattle.entries.specs.Entries.{highIn, secondOf, recordLines, fillerIn};
+ghost use Rattle.written.specs.Line.{lineText, textOf};
+ghost use Rattle.lines.specs.Lines.{scalersLine};
+ghost use Rattle.entries.specs.Entries.{highIn, secondOf, scalersIn, scalerCells, recordLines, fillerIn};
 use items::Item;
 use lines::Second;
 use reader::Judged;
@@ -47,6 +48,41 @@ fn second_in(bytes: &[u8], scan: Scan) -> Second
     }
 }
 
+// The scalers' words that are accepted here, each behind a tab.
+fn put_words(text: &mut [u8], from: usize, bytes: &[u8], after: Scan) -> usize
+    ensures { λ r. ⌜ (now (text .exit), r) ≡ put (now (text .entry), from) (scalerCells ((readFrom after (wordsOfBytes (now (bytes .entry)))) .items)) ⌝ }
+{
+    let mut scan = after;
+    let mut next: usize = 0;
+    let mut at = from;
+    while 4 <= bytes.len() - next {
+        let judged = reader::judge_at(scan, first_word(&bytes[next..]));
+        match judged {
+            Judged::Took(item, behind) => {
+                if let Item::Scaler(r) = item {
+                    at = text::put_cell(text, at, false, r.value as u64);
+                    scan = behind;
+                    next += 4;
+                } else {
+                    return at;
+                }
+            }
+            Judged::Refused(_, _) => return at,
+            Judged::Ended => return at,
+        }
+    }
+    at
+}
+
+// The scalers' line, by the bytes and the scan behind their header.
+fn put_scalers(text: &mut [u8], at: usize, behind: &[u8], after: Scan) -> usize
+    ensures { λ r. ⌜ (now (text .exit), r) ≡ put (now (text .entry), at) (lineText (scalersLine (scalersIn ((readFrom after (wordsOfBytes (now (behind .entry)))) .items)))) ⌝ }
+{
+    let name = text::put_bytes(text, at, b"scalers");
+    let words = put_words(text, name, behind, after);
+    text::put_bytes(text, words, b"\n")
+}
+
 // The lines of one record; `behind` and `after` are the bytes and the scan behind it.
 pub fn list_item(text: &mut [u8], at: usize, item: Item, behind: &[u8], after: Scan) -> usize
     ensures { λ r. ⌜ (now (text .exit), r) ≡ put (now (text .entry), at) (textOf (recordLines item ((readFrom after (wordsOfBytes (now (behind .entry)))) .items))) ⌝ }
@@ -66,6 +102,8 @@ pub fn list_item(text: &mut [u8], at: usize, item: Item, behind: &[u8], after: S
         Item::Pedestal(r) => lines::put_ped(text, at, r),
         Item::Empty(r) => lines::put_empty(text, at, r),
         Item::Filler(_) => at,
+        Item::Scalers(_) => put_scalers(text, at, behind, after),
+        Item::Scaler(_) => at,
     }
 }
 

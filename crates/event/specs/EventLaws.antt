@@ -1,6 +1,6 @@
 -- The posted channels, in turn. Assumes nothing.
-use Prim.Native.Nat.{ℕ, zero, suc, _+_, _-_, _*_, _/_, _%_, _^_, _≤_, _<_}
-use mathlib.Core.Path.{_≡_, refl, sym, ap, ap₂, _∙_}
+use Prim.Native.Nat.{ℕ, zero, suc, _+_, _*_, _/_, _%_, _^_, _≤_, _<_}
+use mathlib.Core.Path.{_≡_, refl, ap₂, _∙_}
 use mathlib.Core.Bool.{Bool, true, false, cond}
 use mathlib.Core.List.{List, [], _∷_, _++_}
 use native.Mathlib.Omega.{arith}
@@ -10,7 +10,7 @@ use lib.Dec.{leb}
 use Rattle.ground.specs.Splice.{Written}
 use Rattle.ground.specs.WritingLaws.{Left}
 use Rattle.settings.specs.declared.Settings.{Settings}
-use Rattle.limits.specs.Limits.{mostChannel, channels, mostEvent}
+use Rattle.limits.specs.Limits.{mostChannel, channels, tailWords, mostEvent}
 use Rattle.limits.specs.LimitsLaws.{event-is}
 use Rattle.settings.specs.Ranges.{settingsOk}
 use Rattle.settings.specs.RangesLaws.{settings-in-range}
@@ -144,8 +144,8 @@ unfolding eventLength
 event-within s posted store ok h =
     omega (arith, length-channels s store 0 posted ok, mul-le-mul-right (modeMost (s .mode) (s .nw)) h, settings-in-range s ok .times)
 
--- an event is at most 12,051 words, and at least its header and time words
-pub event-most : (s : Settings) (posted : List Bool) (store : List ℕ) → settingsOk s ≡ true → length posted ≤ channels → eventLength s posted store ≤ mostEvent
+-- an event is at most 12,070 words with its scalers, and at least its header and time words
+pub event-most : (s : Settings) (posted : List Bool) (store : List ℕ) → settingsOk s ≡ true → length posted ≤ channels → eventLength s posted store + tailWords ≤ mostEvent
 unfolding eventLength
 event-most s posted store ok h = omega (arith, event-is, channels-most s posted store ok h, settings-in-range s ok .times)
 

@@ -1,24 +1,27 @@
-// The words of one event: its header, its time, and the posted channels of the store.
+// The words of one event: its header, its time, the posted channels of the store, and its scalers where they are asked for.
 use framing::event_header::EventHeader;
 use framing::trigger_time::TriggerTime;
 use framing::trigger_time_high::TriggerTimeHigh;
 use items::Item;
 use limits::CHANNELS;
+use limits::LATCHED;
+use limits::TAIL_WORDS;
 use settings::Settings;
 ghost use mathlib.Core.Path.{_≡_};
 ghost use mathlib.Core.Bool.{true, cond, _&&_};
-ghost use mathlib.Core.List.{[]};
+ghost use mathlib.Core.List.{[], _++_};
 ghost use Prim.Native.Nat.{_+_, _-_, _*_, _^_, _≤_};
 ghost use lib.Dec.{leb, ltb};
 ghost use lib.ListN.{length};
 ghost use Rattle.ground.specs.Splice.{Written, WrittenIf};
-ghost use Rattle.limits.specs.Limits.{mostSamples};
+ghost use Rattle.limits.specs.Limits.{mostSamples, tailWords};
 ghost use Rattle.settings.specs.Ranges.{settingsOk};
 ghost use Rattle.rows.specs.Rows.{lentOk};
 ghost use Rattle.rows.specs.Inner.{Lent};
 ghost use Rattle.items.specs.Items.{wordsOf};
 ghost use Rattle.modes.specs.Channel.{commonOf, channelItems};
 ghost use Rattle.event.specs.Event.{timeItems, channelsItems, eventItems};
+ghost use Rattle.tail.specs.Tail.{tailItems};
 ghost use Rattle.event.specs.Inner.{eventLength};
 
 // Where the two time words part a time.
@@ -159,16 +162,43 @@ fn event_length(settings: Settings, posted: &[bool], store: &[u16]) -> usize
     1 + (settings.times as usize) + channels_length(settings, posted, store)
 }
 
+// The words of an event's scalers.
+fn tail_length(asked: bool) -> usize
+    ensures { λ r. ⌜ r ≡ cond asked tailWords 0 ⌝ }
+{
+    if asked { TAIL_WORDS } else { 0 }
+}
+
 // Fewer words are left than the event takes. Where there is room for the longest in the mode, nothing is counted.
-fn event_short(room: usize, at: usize, settings: Settings, posted: &[bool], store: &[u16]) -> bool
+fn event_short(
+    room: usize,
+    at: usize,
+    settings: Settings,
+    posted: &[bool],
+    store: &[u16],
+    asked: bool,
+) -> bool
     requires { ⌜ Lent settings (now posted) (now store) ⌝ }
-    ensures { λ r. ⌜ r ≡ ltb room (at + eventLength settings (now (posted .entry)) (now (store .entry))) ⌝ }
+    ensures { λ r. ⌜ r ≡ ltb room (at + (eventLength settings (now (posted .entry)) (now (store .entry)) + cond asked tailWords 0)) ⌝ }
 {
     let channel = modes::most_words(settings.mode, settings.nw);
-    if !items::put::room_short(room, at, 3 + CHANNELS * channel) {
+    let tail = tail_length(asked);
+    if !items::put::room_short(room, at, 3 + CHANNELS * channel + tail) {
         return false;
     }
-    items::put::room_short(room, at, event_length(settings, posted, store))
+    items::put::room_short(room, at, event_length(settings, posted, store) + tail)
+}
+
+// The scalers where they are asked for.
+fn put_asked(words: &mut [u32], at: usize, asked: bool, latched: [u32; LATCHED]) -> usize
+    requires { ⌜ at + length (tailItems asked latched) ≤ length (now words) ⌝ }
+    ensures { λ r. ⌜ Written (now (words .entry)) at (wordsOf (tailItems asked latched)) r (now (words .exit)) ⌝ }
+{
+    if asked {
+        tail::put_tail(words, at, latched)
+    } else {
+        at
+    }
 }
 
 // All words of an event, or none: an event has a word, so the place tells.
@@ -180,14 +210,17 @@ pub fn put_event(
     time: u64,
     posted: &[bool],
     store: &[u16],
+    asked: bool,
+    latched: [u32; LATCHED],
 ) -> usize
-    ensures { λ r. ⌜ WrittenIf (lentOk settings (now (posted .entry)) (now (store .entry)) && leb time (2 ^ 48 - 1)) (now (words .entry)) at (wordsOf (eventItems settings number time (now (posted .entry)) (now (store .entry)))) r (now (words .exit)) ⌝ }
+    ensures { λ r. ⌜ WrittenIf (lentOk settings (now (posted .entry)) (now (store .entry)) && leb time (2 ^ 48 - 1)) (now (words .entry)) at (wordsOf (eventItems settings number time (now (posted .entry)) (now (store .entry)) ++ tailItems asked latched)) r (now (words .exit)) ⌝ }
 {
     if !(rows::lent(settings, posted, store) & (time <= TriggerTimeHigh::TIME_MAX)) {
         return at;
     }
-    if event_short(words.len(), at, settings, posted, store) {
+    if event_short(words.len(), at, settings, posted, store, asked) {
         return at;
     }
-    put_lent(words, at, settings, number, time, posted, store)
+    let next = put_lent(words, at, settings, number, time, posted, store);
+    put_asked(words, next, asked, latched)
 }

@@ -32,6 +32,8 @@ highOf (I.Time x) u = H.Nothing
 highOf (I.Pedestal x) u = H.Nothing
 highOf (I.Empty x) u = H.Nothing
 highOf (I.Filler x) u = H.Nothing
+highOf (I.Scalers x) u = H.Nothing
+highOf (I.Scaler x) u = H.Nothing
 
 abbrev pub onHigh : Judged → High
 onHigh (J.Took x u) = highOf x u

@@ -1,4 +1,4 @@
--- Document 01, "The words": the words around the channels, row by row. A row lists the fields from the highest bit down, as the paper does; beside it stand the record
+-- Document 01, "The words": the words around the channels, row by row; an event's scalers are document 02's. A row lists the fields from the highest bit down, as the paper does; beside it stand the record
 -- that a word holds, and what the reader asks of it. Assumes nothing.
 use Prim.Native.Nat.{ℕ}
 use mathlib.Core.Bool.{Bool, _&&_}
@@ -12,6 +12,8 @@ use Rattle.framing.specs.declared.trailer.BlockTrailer.{BlockTrailer}
 use Rattle.framing.specs.declared.event_header.EventHeader.{EventHeader}
 use Rattle.framing.specs.declared.trigger_time.TriggerTime.{TriggerTime}
 use Rattle.framing.specs.declared.trigger_time_high.TriggerTimeHigh.{TriggerTimeHigh}
+use Rattle.framing.specs.declared.scalers.ScalerHeader.{ScalerHeader}
+use Rattle.framing.specs.declared.scaler.ScalerWord.{ScalerWord}
 use Rattle.framing.specs.declared.empty.ModuleEmpty.{ModuleEmpty}
 use Rattle.framing.specs.declared.filler.Filler.{Filler}
 
@@ -73,6 +75,24 @@ triggerTimeHighOf word = record { high = read 23 0 word }
 unfoldable pub triggerTimeHighFixed : ℕ → Bool
 triggerTimeHighFixed word = eqb (read 30 24 word) 0
 
+-- 02: "type 12 (bits 26-6 zero, 5-0 = 18)"; "the reader takes the stated count, 0 to 63"
+unfoldable pub scalers : ScalerHeader → List Field
+scalers r = defining 12 (bits 26 6 0 ∷ bits 5 0 (r .count) ∷ [])
+
+unfoldable pub scalersOf : ℕ → ScalerHeader
+scalersOf word = record { count = read 5 0 word }
+
+-- the bits shown zero are zero
+unfoldable pub scalersFixed : ℕ → Bool
+scalersFixed word = eqb (read 26 6 word) 0
+
+-- 02: "the latched words .. They carry no tag": all bits are the count
+unfoldable pub scaler : ScalerWord → List Field
+scaler r = bits 31 0 (r .value) ∷ []
+
+unfoldable pub scalerOf : ℕ → ScalerWord
+scalerOf word = record { value = read 31 0 word }
+
 -- "14 module empty: 26-22 slot, rest undefined, written 0"
 unfoldable pub empty : ModuleEmpty → List Field
 empty r = defining 14 (bits 26 22 (r .slot) ∷ bits 21 0 0 ∷ [])
@@ -89,5 +109,5 @@ fillerOf word = record { slot = read 26 22 word }
 
 -- a proof that computes opens this file and what it leans on by one name
 unfoldable pub allOpen : Unit {0}
-unfolding blockHeader blockHeaderOf blockHeaderFixed blockHeaderWithin parameters parametersOf parametersFixed trailer trailerOf eventHeader eventHeaderOf triggerTime triggerTimeOf triggerTimeHigh triggerTimeHighOf triggerTimeHighFixed empty emptyOf filler fillerOf Rattle.fields.specs.Word.allOpen Rattle.fields.specs.Tag.allOpen
+unfolding blockHeader blockHeaderOf blockHeaderFixed blockHeaderWithin parameters parametersOf parametersFixed trailer trailerOf eventHeader eventHeaderOf triggerTime triggerTimeOf triggerTimeHigh triggerTimeHighOf triggerTimeHighFixed scalers scalersOf scalersFixed scaler scalerOf empty emptyOf filler fillerOf Rattle.fields.specs.Word.allOpen Rattle.fields.specs.Tag.allOpen
 allOpen = tt

@@ -16,9 +16,11 @@ use Rattle.framing.specs.declared.trailer.BlockTrailer.{BlockTrailer}
 use Rattle.framing.specs.declared.event_header.EventHeader.{EventHeader}
 use Rattle.framing.specs.declared.trigger_time.TriggerTime.{TriggerTime}
 use Rattle.framing.specs.declared.trigger_time_high.TriggerTimeHigh.{TriggerTimeHigh}
+use Rattle.framing.specs.declared.scalers.ScalerHeader.{ScalerHeader}
+use Rattle.framing.specs.declared.scaler.ScalerWord.{ScalerWord}
 use Rattle.framing.specs.declared.empty.ModuleEmpty.{ModuleEmpty}
 use Rattle.framing.specs.declared.filler.Filler.{Filler}
-use Rattle.framing.specs.Words.{blockHeader, blockHeaderOf, blockHeaderFixed, parameters, parametersOf, parametersFixed, trailer, trailerOf, eventHeader, eventHeaderOf, triggerTime, triggerTimeOf, triggerTimeHigh, triggerTimeHighOf, triggerTimeHighFixed, empty, emptyOf, filler, fillerOf}
+use Rattle.framing.specs.Words.{blockHeader, blockHeaderOf, blockHeaderFixed, parameters, parametersOf, parametersFixed, trailer, trailerOf, eventHeader, eventHeaderOf, triggerTime, triggerTimeOf, triggerTimeHigh, triggerTimeHighOf, triggerTimeHighFixed, scalers, scalersOf, scalersFixed, scaler, scalerOf, empty, emptyOf, filler, fillerOf}
 
 -- ---- 0 block header
 
@@ -94,6 +96,30 @@ triggerTimeHigh-back word l d z =
     let a = continued word d in
     let f = eqb-true (read 30 24 word) 0 z in
     built (triggerTimeHigh (triggerTimeHighOf word)) word l tt (cc)
+
+-- ---- 12 scalers
+
+pub scalers-there : (r : ScalerHeader) → fit (scalers r) ≡ true → scalersOf (pack (scalers r)) ≡ r
+unfolding scalers scalersOf
+scalers-there r h = taken (scalers r) (λ vs. record { count = getD vs 3 0 }) refl tt (true-T h)
+
+pub scalers-back : (word : ℕ) → word < 2 ^ 32 → isDefining 12 word ≡ true → scalersFixed word ≡ true → pack (scalers (scalersOf word)) ≡ word
+unfolding scalers scalersOf scalersFixed
+scalers-back word l d z =
+    let a = defined 12 word d in
+    let f = eqb-true (read 26 6 word) 0 z in
+    built (scalers (scalersOf word)) word l tt (cc)
+
+-- ---- the scalers' words
+
+pub scaler-there : (r : ScalerWord) → fit (scaler r) ≡ true → scalerOf (pack (scaler r)) ≡ r
+unfolding scaler scalerOf
+scaler-there r h = taken (scaler r) (λ vs. record { value = getD vs 0 0 }) refl tt (true-T h)
+
+-- every word is one
+pub scaler-back : (word : ℕ) → word < 2 ^ 32 → pack (scaler (scalerOf word)) ≡ word
+unfolding scaler scalerOf
+scaler-back word l = built (scaler (scalerOf word)) word l tt refl
 
 -- ---- 14 module empty
 

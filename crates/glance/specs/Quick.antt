@@ -64,6 +64,7 @@ quickBy s P.Items word = measureOf (behindAt s P.Items) word
 quickBy s (P.Window n odd) word = cond (not (ltb 1 n && plain word)) Q.Other (Q.Took K.Pair (behindAt s (P.Window (n - 1) odd)))
 quickBy s (P.Raw n some) word = cond (not (ltb 0 n && plain word)) Q.Other (Q.Took K.Pair (behindAt s (P.Raw (n - 1) true)))
 quickBy s (P.Tail n) word = Q.Other
+quickBy s (P.Scalers n) word = Q.Other
 
 unfoldable pub quickOf : Scan → ℕ → Quick
 quickOf s word = cond (atLimit s) Q.Other (quickBy s (s .stage) word)

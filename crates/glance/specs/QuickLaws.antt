@@ -20,7 +20,7 @@ use Rattle.items.specs.declared.Item.the-variants as I
 use Rattle.scan.specs.declared.Scan.{Scan}
 use Rattle.scan.specs.declared.Stage.{Stage}
 use Rattle.scan.specs.declared.Stage.the-variants as P
-use Rattle.scan.specs.After.{onward, after, pairedBy}
+use Rattle.scan.specs.After.{after, pairedBy}
 use Rattle.meaning.specs.declared.Meaning.the-variants as M
 use Rattle.meaning.specs.Meaning.{meaningAt, meaningIn, moreBy, allowedBy, otherBy}
 use Rattle.meaning.specs.MeaningLaws.{meaning-more, meaning-type}
@@ -33,7 +33,7 @@ use Rattle.entries.specs.Entries.{recordLines, fillerIn}
 use Rattle.fields.specs.Bytes.{wordsOfBytes}
 use Rattle.reader.specs.Reader.{readFrom}
 use Rattle.written.specs.Page.{Page, put}
-use Rattle.written.specs.Line.{Line, lineText, textOf}
+use Rattle.written.specs.Line.{lineText, textOf}
 use Rattle.written.specs.LineLaws.{say-one}
 use Rattle.glance.specs.declared.Kind.{Kind}
 use Rattle.glance.specs.declared.Kind.the-variants as K
@@ -43,7 +43,7 @@ use Rattle.glance.specs.declared.Quick.{Quick}
 use Rattle.glance.specs.declared.Quick.the-variants as Q
 use Rattle.glance.specs.declared.Known.{Known}
 use Rattle.glance.specs.declared.Known.the-variants as N
-use Rattle.glance.specs.Quick.{quickItem, quickLine, behindAt, measureOf, quickBy, quickOf, QuickSays, onTo, knownOf}
+use Rattle.glance.specs.Quick.{quickItem, quickLine, behindAt, measureOf, quickBy, quickOf, QuickSays, knownOf}
 
 -- its record has that line, whatever follows, and is no filler
 pub quick-line : (kind : Kind) (word : ℕ) (behind : List Item) → recordLines (quickItem kind word) behind ≡ quickLine kind word ∷ []
@@ -135,6 +135,7 @@ stage-says s word h (P.Raw n some) e = go (ltb 0 n && plain word) refl
     go true d = raw-quick s word h n e d
     go false d = tt
 stage-says s word h (P.Tail n) e = tt
+stage-says s word h (P.Scalers n) e = tt
 
 pub quick-says : (s : Scan) (word : ℕ) → QuickSays s word (quickOf s word)
 unfolding quickOf

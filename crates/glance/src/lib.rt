@@ -86,6 +86,7 @@ fn in_stage(scan: Scan, word: u32) -> Quick
             )
         }
         Stage::Tail(_) => Quick::Other,
+        Stage::Scalers(_) => Quick::Other,
     }
 }
 

@@ -1,11 +1,12 @@
 -- The invariant of every loop that copies a list into a lent buffer, an element a turn, over any element. Assumes nothing.
 use mathlib.Core.Path.{_≡_, refl, sym, ap, _∙_}
 use mathlib.Core.List.{List}
+use native.Mathlib.Omega.{arith}
 use Prim.Native.Nat.{ℕ, _+_, _≤_, _<_}
-use lib.ListN.{length, take, set, getD, length-set}
-use lib.Seq.{take-all}
+use lib.ListN.{length, take, drop, set, getD, length-set, length-take}
+use lib.Seq.{take-all, getD-drop}
 use Rattle.ground.specs.Splice.{splice}
-use Rattle.ground.specs.SpliceLaws.{splice-nil, splice-take}
+use Rattle.ground.specs.SpliceLaws.{splice-nil, splice-take, drop-splice}
 
 module _ {A : Type 0} where
   -- the first i elements of src stand in buf from place `at`, and all else is as it was in buf₀
@@ -27,3 +28,13 @@ module _ {A : Type 0} where
 
     pub copy-end : length src ≤ i → buf ≡ splice buf₀ at src
     copy-end h = c .words ∙ ap (splice buf₀ at) (take-all i src h)
+
+    -- what is not copied over yet is as it was
+    pub copy-ahead : (d : A) → at ≡ 0 → i ≤ length src → getD buf i d ≡ getD buf₀ i d
+    copy-ahead d z h =
+        let n : at + length (take i src) + 0 ≡ i = omega (arith, z, length-take i src) in
+        let same : drop i buf ≡ drop i buf₀ = rw (c .words) (rw n at (drop-splice buf₀ at (take i src) 0 (omega (arith, z)))) in
+        first buf ∙ ap (λ (l : List A). getD l 0 d) same ∙ sym (first buf₀)
+      where
+        first : (l : List A) → getD l i d ≡ getD (drop i l) 0 d
+        first l = sym (getD-drop i l 0 d ∙ ap (λ (k : ℕ). getD l k d) (omega arith))

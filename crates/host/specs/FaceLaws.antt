@@ -1,12 +1,12 @@
 -- The numbers that a call leaves are those of the state that it gives. Assumes nothing.
 use Prim.Native.Nat.{ℕ, _+_, _*_, _^_, _≤_}
-use mathlib.Core.Path.{_≡_, refl, sym, ap, ap₂, _∙_}
+use mathlib.Core.Path.{_≡_, refl, sym, ap, _∙_}
 use mathlib.Core.Bool.{Bool, true, false, cond}
 use mathlib.Core.List.{List, _++_}
 use native.Mathlib.Omega.{arith}
 use borrow.Author.Tests.{eq-eqb, ne-eqb, eqb-true}
 use lib.Dec.{eqb}
-use lib.ListN.{length, drop, replicate, length-replicate}
+use lib.ListN.{length, replicate, length-replicate}
 use Rattle.ground.specs.Splice.{splice}
 use Rattle.ground.specs.SpliceLaws.{splice-all}
 use Rattle.ground.specs.Tests.{firstOf}
@@ -17,6 +17,7 @@ use Rattle.refusals.specs.Refusal.{numberOf, badArray, ifAccepted, orElse}
 use Rattle.refusals.specs.RefusalLaws.{none-later}
 use Rattle.refusals.specs.declared.Refusal.the-variants as R
 use Rattle.items.specs.Items.{wordsOf}
+use Rattle.scalers.specs.Scalers.{nothingCounted}
 use Rattle.state.specs.declared.State.{State}
 use Rattle.state.specs.State.{idle, blank, withBlock, withEvent, withClosed}
 use Rattle.state.specs.StateLaws.{blank-out}
@@ -28,72 +29,15 @@ use Rattle.refusing.specs.Tables.{setUpNumber, openBlockTable, openBlockNumber,
 use Rattle.refusing.specs.TablesLaws.{post-accepted}
 use Rattle.block.specs.Block.{blockItems, endItems}
 use Rattle.writer.specs.CallsLaws.{done}
-use Rattle.places.specs.Places.{marksAt, headCount, stateCount, isSettings, isState}
-use Rattle.numbers.specs.Numbers.{settingsFrom, stateFrom, settingsOrNone, stateOrNone, settingsNumbers, headOf, numbersOf, headStored, stateStored}
-use Rattle.numbers.specs.On.{onState, onSettings}
+use Rattle.places.specs.Places.{marksAt, frontCount, stateCount, isSettings, isState}
+use Rattle.numbers.specs.Numbers.{settingsFrom, stateFrom, settingsOrNone, stateOrNone, headOf, scalerNumbers, numbersOf, headStored, stateStored}
+use Rattle.numbers.specs.On.{onSettings}
 use Rattle.numbers.specs.OnLaws.{none-out, settings-number, settings-accepted}
-use Rattle.places.specs.PlacesLaws.{settings-count, state-count, state-settings-held, head-held}
-use Rattle.numbers.specs.StoreLaws.{head-over}
+use Rattle.places.specs.PlacesLaws.{settings-count, state-count, front-held}
+use Rattle.numbers.specs.CallLaws.{call-number, call-lent, call-numbers, call-accepted, call-placed}
 use Rattle.numbers.specs.BackLaws.{settings-back, event-stored, mark-stored}
 use Rattle.host.specs.Face.{blockOpened, posted, eventClosed, finishOn, inHigh, SetUpFace, OpenBlockFace, OpenEventFace, PostFace, CloseFace, FinishFace}
 use Rattle.host.specs.Inner.{Kept, eventPlaced, MarkFits, markPlaced}
-
--- the head of a state with these settings, over the numbers
-head-numbers : (n : List ℕ) (s : State) → isState n ≡ true → s .settings ≡ stateFrom n .settings → headStored n s ≡ numbersOf s
-unfolding numbersOf stateFrom
-head-numbers n s e f =
-    head-over n s (omega (arith, state-count n e))
-    ∙ ap (λ (l : List ℕ). headOf s ++ l) (sym (ap settingsNumbers f ∙ settings-back (drop headCount n) (state-settings-held n e)))
-
--- ---- a call on a state: its number, the numbers after it, and what was lent; numbers that are no state are refused as what stands for none
-
-module _ (n : List ℕ) (number : State → ℕ) (none : number blank ≡ numberOf R.State) {s : State} {r : ℕ} (f : s ≡ stateOrNone n) (g : r ≡ number s) where
-  call-number : r ≡ onState n (number (stateFrom n))
-  call-number = g ∙ ap number f ∙ go (isState n)
-    where
-      go : (b : Bool) → number (cond b (stateFrom n) blank) ≡ cond b (number (stateFrom n)) (numberOf R.State)
-      go true = refl
-      go false = none
-
-  call-lent : {A : Type 0} (new : State → A) (old : A) {left : A} → left ≡ ifAccepted (number s) (new s) old → left ≡ ifAccepted r (new (stateFrom n)) old
-  call-lent new old h = h ∙ ap₂ (λ (k : ℕ) (x : State). ifAccepted k (new x) old) (sym g) f ∙ go (isState n) (g ∙ ap number f)
-    where
-      go : (b : Bool) → r ≡ number (cond b (stateFrom n) blank) → ifAccepted r (new (cond b (stateFrom n) blank)) old ≡ ifAccepted r (new (stateFrom n)) old
-      go true p = refl
-      go false p = rw (p ∙ none)
-
-  call-numbers : (new : State → State) {u : State} {n′ : List ℕ} → ((x : State) → new x .settings ≡ x .settings)
-      → u ≡ ifAccepted (number s) (new s) s → n′ ≡ ifAccepted r (headStored n u) n → n′ ≡ ifAccepted r (numbersOf (new (stateFrom n))) n
-  call-numbers new {u = u} same h k = k ∙ go (isState n) refl (g ∙ ap number f) f
-    where
-      put : isState n ≡ true → (b : Bool) → u ≡ cond b (new (stateFrom n)) (stateFrom n) → cond b (headStored n u) n ≡ cond b (numbersOf (new (stateFrom n))) n
-      put e true p = ap (headStored n) p ∙ head-numbers n (new (stateFrom n)) e (same (stateFrom n))
-      put e false p = refl
-
-      go : (b : Bool) → isState n ≡ b → r ≡ number (cond b (stateFrom n) blank) → s ≡ cond b (stateFrom n) blank → ifAccepted r (headStored n u) n ≡ ifAccepted r (numbersOf (new (stateFrom n))) n
-      go true e p q = put e (eqb r 0) (h ∙ ap₂ (λ (j : ℕ) (x : State). ifAccepted j (new x) x) (sym g) q)
-      go false e p q = rw (p ∙ none)
-
-  -- only a state is accepted
-  call-accepted : r ≡ 0 → isState n ≡ true
-  call-accepted e = go (isState n) (sym e ∙ g ∙ ap number f)
-    where
-      go : (b : Bool) → 0 ≡ number (cond b (stateFrom n) blank) → b ≡ true
-      go true p = refl
-      go false p = absurd (omega (arith, p, none))
-
-  -- the same where what the call changes is put in place
-  call-placed : (new : State → State) (put : List ℕ) {n′ : List ℕ} → (isState n ≡ true → number (stateFrom n) ≡ 0 → numbersOf (new (stateFrom n)) ≡ put)
-      → n′ ≡ ifAccepted r put n → n′ ≡ ifAccepted r (numbersOf (new (stateFrom n))) n
-  call-placed new put same k = k ∙ go (isState n) refl (g ∙ ap number f)
-    where
-      placed : isState n ≡ true → (b : Bool) → eqb r 0 ≡ b → r ≡ number (stateFrom n) → cond b put n ≡ cond b (numbersOf (new (stateFrom n))) n
-      placed e true p q = sym (same e (sym q ∙ eqb-true r 0 p))
-      placed e false p q = refl
-
-      go : (b : Bool) → isState n ≡ b → r ≡ number (cond b (stateFrom n) blank) → ifAccepted r put n ≡ ifAccepted r (numbersOf (new (stateFrom n))) n
-      go true e p = placed e (eqb r 0) refl p
-      go false e p = rw (p ∙ none)
 
 -- the numbers of an answer, told by the number that C gets
 told : {n : List ℕ} {number : ℕ} {s : State} {r : ℕ} {n′ : List ℕ} → Kept n number s r n′ → n′ ≡ ifAccepted r (headStored n s) n
@@ -133,11 +77,11 @@ module _ (m n : List ℕ) {s : Settings} {a : Answer} (f : s ≡ settingsOrNone 
       let accepted : setUpNumber s ≡ 0 = sym (d .refusal) ∙ eqb-true _ 0 h in
       let e : isSettings m ≡ true = settings-accepted m setUpNumber set-up-out (ap setUpNumber (sym f) ∙ accepted) in
       let same : s ≡ settingsFrom m = f ∙ ap (λ (b : Bool). cond b (settingsFrom m) (blank .settings)) e in
-      let state : a .state ≡ idle s = d .state ∙ done (idle s) blank accepted in
-      let whole : stateStored n (a .state) m ≡ headOf (a .state) ++ m = rw (eq-eqb _ _ k, eq-eqb _ _ (settings-count m e)) in
+      let state : a .state ≡ idle s nothingCounted = d .state ∙ done (idle s nothingCounted) blank accepted in
+      let whole : stateStored n (a .state) m ≡ headOf (a .state) ++ (scalerNumbers (a .state .scalers) ++ m) = rw (eq-eqb _ _ k, eq-eqb _ _ (settings-count m e)) in
       record {
         number = rw (eq-eqb _ _ k) (sym (first-number 0 ∙ rw h));
-        numbers = rw (eq-eqb _ _ k) (g ∙ whole ∙ ap (λ (x : State). headOf x ++ m) (state ∙ ap idle same) ∙ ap (λ (l : List ℕ). headOf (idle (settingsFrom m)) ++ l) (sym (settings-back m e)));
+        numbers = rw (eq-eqb _ _ k) (g ∙ whole ∙ ap (λ (x : State). headOf x ++ (scalerNumbers (x .scalers) ++ m)) (state ∙ ap (λ (x : Settings). idle x nothingCounted) same) ∙ ap (λ (l : List ℕ). headOf (idle (settingsFrom m) nothingCounted) ++ (scalerNumbers nothingCounted ++ l)) (sym (settings-back m e)));
       }
 
 -- ---- open a block
@@ -146,9 +90,9 @@ block-out : (room block events : ℕ) → openBlockNumber blank room block event
 unfolding openBlockNumber openBlockTable firstOf
 block-out room block events = rw blank-out
 
-block-same : (block events : ℕ) (s : State) → blockOpened s block events .settings ≡ s .settings
+block-same : (block events : ℕ) (s : State) → (blockOpened s block events .settings ≡ s .settings) × (blockOpened s block events .scalers ≡ s .scalers)
 unfolding withBlock
-block-same block events s = refl
+block-same block events s = (refl, refl)
 
 pub open-block-face : (n words : List ℕ) (block events : ℕ) {s : State} {a : Answer} {r : ℕ} {n′ words′ : List ℕ} → s ≡ stateOrNone n
     → OpenBlockSays s words block events a words′ → Kept n (numberOf (a .refusal)) (a .state) r n′ → OpenBlockFace n words block events r n′ words′
@@ -167,18 +111,21 @@ event-out : (event time : ℕ) → openEventNumber blank event time ≡ numberOf
 unfolding openEventNumber openEventTable firstOf
 event-out event time = rw blank-out
 
-pub event-room : (n : List ℕ) (event time : ℕ) {s : State} {a : Answer} → s ≡ stateOrNone n → OpenEventSays s event time a → numberOf (a .refusal) ≡ 0 → headCount ≤ length n
-event-room n event time f d e =
-    omega (arith, state-count n (call-accepted n (λ x. openEventNumber x event time) (event-out event time) f (d .refusal) e))
+pub event-room : (n : List ℕ) (event time : ℕ) {s : State} {a : Answer} → s ≡ stateOrNone n → OpenEventSays s event time a → numberOf (a .refusal) ≡ 0 → frontCount ≤ length n
+event-room n event time f d e = omega (arith, state-count n (call-accepted n (λ x. openEventNumber x event time) (event-out event time) f (d .refusal) e))
 
 pub open-event-face : (n : List ℕ) (event time : ℕ) {s : State} {a : Answer} {r : ℕ} {n′ : List ℕ} → s ≡ stateOrNone n
-    → OpenEventSays s event time a → r ≡ numberOf (a .refusal) → n′ ≡ ifAccepted r (eventPlaced n event time) n → OpenEventFace n event time r n′
-open-event-face n event time f d h k =
+    → OpenEventSays s event time a → r ≡ numberOf (a .refusal) → n′ ≡ ifAccepted r (eventPlaced n event time (a .state .scalers .triggers)) n → OpenEventFace n event time r n′
+open-event-face n event time {s} {a} f d h k =
     let number : State → ℕ = λ x. openEventNumber x event time in
+    let new : State → State = λ x. withEvent x event time in
     let g = h ∙ d .refusal in
+    let same : isState n ≡ true → s ≡ stateFrom n = λ e. f ∙ ap (λ (b : Bool). cond b (stateFrom n) blank) e in
+    let opened : isState n ≡ true → number (stateFrom n) ≡ 0 → new (stateFrom n) ≡ a .state =
+    λ e o. ap new (sym (same e)) ∙ sym (d .state ∙ done (new s) s (ap number (same e) ∙ o)) in
     record {
       number = call-number n number (event-out event time) f g;
-      numbers = call-placed n number (event-out event time) f g (λ (x : State). withEvent x event time) (eventPlaced n event time) (λ e o. event-stored n event time e) k;
+      numbers = call-placed n number (event-out event time) f g new (eventPlaced n event time (a .state .scalers .triggers)) (λ e o. event-stored n event time e ∙ ap (λ (x : State). eventPlaced n event time (x .scalers .triggers)) (opened e o)) k;
     }
 
 -- ---- post a channel
@@ -192,7 +139,7 @@ pub mark-room : (n store : List ℕ) (c : ℕ) (w : List ℕ) {s : State} {a : A
 mark-room n store c w f d e =
     let state = call-accepted n (λ x. postNumber x (length store) c w) (mark-out (length store) c w) f (d .refusal) e in
     let a = post-accepted _ (length store) c w (sym (d .refusal) ∙ e) in
-    record { long = omega (arith, state-count n state); small = omega (arith, head-held n state marksAt (omega arith)); channel = omega (arith, a .channel) }
+    record { long = omega (arith, state-count n state); small = omega (arith, front-held n state marksAt (omega arith)); channel = omega (arith, a .channel) }
 
 pub post-face : (n store : List ℕ) (c : ℕ) (w : List ℕ) {s : State} {a : Answer} {r : ℕ} {n′ store′ : List ℕ} → s ≡ stateOrNone n
     → PostSays s store c w a store′ → r ≡ numberOf (a .refusal) → n′ ≡ ifAccepted r (markPlaced n c) n → PostFace n store c w r n′ store′
@@ -210,23 +157,24 @@ post-face n store c w f d h k =
 
 -- ---- close the event
 
-close-out : (store : List ℕ) (room : ℕ) → closeNumber blank store room ≡ numberOf R.State
+close-out : (asked : Bool) (store : List ℕ) (room : ℕ) → closeNumber blank asked store room ≡ numberOf R.State
 unfolding closeNumber closeTable firstOf
-close-out store room = rw blank-out
+close-out asked store room = rw blank-out
 
-close-same : (store : List ℕ) (s : State) → eventClosed s store .settings ≡ s .settings
+close-same : (asked : Bool) (store : List ℕ) (s : State) → (eventClosed s asked store .settings ≡ s .settings) × (eventClosed s asked store .scalers ≡ s .scalers)
 unfolding withClosed
-close-same store s = refl
+close-same asked store s = (refl, refl)
 
-pub close-face : (n store words : List ℕ) {s : State} {a : Answer} {r : ℕ} {n′ words′ : List ℕ} → s ≡ stateOrNone n
-    → CloseSays s store words a words′ → Kept n (numberOf (a .refusal)) (a .state) r n′ → CloseFace n store words r n′ words′
-close-face n store words f d k =
-    let number : State → ℕ = λ x. closeNumber x store (length words) in
+pub close-face : (n store words : List ℕ) (asked : Bool) {s : State} {a : Answer} {r : ℕ} {n′ words′ : List ℕ} → s ≡ stateOrNone n
+    → CloseSays s store words asked a words′ → Kept n (numberOf (a .refusal)) (a .state) r n′ → CloseFace n store words asked r n′ words′
+close-face n store words asked f d k =
+    let number : State → ℕ = λ x. closeNumber x asked store (length words) in
+    let out = close-out asked store (length words) in
     let g = k .answer ∙ d .refusal in
     record {
-      number = call-number n number (close-out store (length words)) f g;
-      numbers = call-numbers n number (close-out store (length words)) f g (λ (x : State). eventClosed x store) (close-same store) (d .state) (told k);
-      buffer = call-lent n number (close-out store (length words)) f g (λ (x : State). splice words (x .words) (wordsOf (closingItems x store))) words (d .buffer);
+      number = call-number n number out f g;
+      numbers = call-numbers n number out f g (λ (x : State). eventClosed x asked store) (close-same asked store) (d .state) (told k);
+      buffer = call-lent n number out f g (λ (x : State). splice words (x .words) (wordsOf (closingItems x asked store))) words (d .buffer);
     }
 
 -- ---- finish the block
@@ -235,9 +183,9 @@ idle-out : (room : ℕ) → finishNumber blank room ≡ numberOf R.State
 unfolding finishNumber finishTable firstOf
 idle-out room = rw blank-out
 
-idle-same : (s : State) → idle (s .settings) .settings ≡ s .settings
+idle-same : (s : State) → (idle (s .settings) (s .scalers) .settings ≡ s .settings) × (idle (s .settings) (s .scalers) .scalers ≡ s .scalers)
 unfolding idle
-idle-same s = refl
+idle-same s = (refl, refl)
 
 -- the number, the state and the words; j is the number of the refusal
 pub finish-face : (n words : List ℕ) {s : State} {a : Finished} {j r : ℕ} {n′ words′ : List ℕ} → s ≡ stateOrNone n
@@ -250,7 +198,7 @@ finish-face n words {a = a} {j = j} f d k h =
     let new : State → List ℕ = λ x. splice words (x .words) (wordsOf (endItems (x .settings) (x .words))) in
     record {
       number = h ∙ high (eqb j 0) (a .length) (size (stateFrom n)) (j * 2 ^ 32) (call-lent n number (idle-out (length words)) f g size 0 (d .size)) ∙ ap (λ (i : ℕ). inHigh i (size (stateFrom n))) same;
-      numbers = call-numbers n number (idle-out (length words)) f g (λ (x : State). idle (x .settings)) idle-same (d .state) (told k) ∙ ap (λ (i : ℕ). ifAccepted i (numbersOf (idle (stateFrom n .settings))) n) same;
+      numbers = call-numbers n number (idle-out (length words)) f g (λ (x : State). idle (x .settings) (x .scalers)) idle-same (d .state) (told k) ∙ ap (λ (i : ℕ). ifAccepted i (numbersOf (idle (stateFrom n .settings) (stateFrom n .scalers))) n) same;
       buffer = call-lent n number (idle-out (length words)) f g new words (d .buffer) ∙ ap (λ (i : ℕ). ifAccepted i (new (stateFrom n)) words) same;
     }
   where

@@ -11,6 +11,7 @@ use Rattle.ground.specs.Tests.{oneOf}
 use Rattle.settings.specs.RangesLaws.{settings-in-range}
 use Rattle.refusals.specs.Refusal.{numberOf, badArray, orElse}
 use Rattle.refusals.specs.declared.Refusal.the-variants as R
+use Rattle.scalers.specs.Scalers.{nothingCounted}
 use Rattle.state.specs.declared.State.{State}
 use Rattle.state.specs.State.{stateOk, idle, withBlock, withEvent, withMark, withClosed}
 use Rattle.state.specs.StateLaws.{state-settings, trailer-fits}
@@ -18,10 +19,12 @@ use Rattle.block.specs.Block.{endItems}
 use Rattle.refusing.specs.TablesLaws.{finish-accepted}
 use Rattle.writer.specs.KeptLaws.{open-block-kept, open-event-kept, post-kept, closing-kept, finish-kept, set-up-kept}
 use Rattle.block.specs.BlockLaws.{end-length, multiple-positive, fillers-lt}
-use Rattle.places.specs.Places.{headCount, stateCount, isSettings, isState}
+use Rattle.places.specs.Places.{frontCount, stateCount, isSettings, isState}
 use Rattle.numbers.specs.Numbers.{settingsFrom, table, marksFrom, stateFrom, numbersOf}
 use Rattle.places.specs.PlacesLaws.{state-settings-held}
 use Rattle.numbers.specs.BackLaws.{Loads, state-back}
+use Rattle.numbers.specs.ScalersLaws.{Sized}
+use Rattle.numbers.specs.SizedLaws.{sized-loaded, sized-none, sized-triggered}
 use Rattle.host.specs.Face.{blockOpened, posted, eventClosed, finishOn, SetUpFace, OpenBlockFace, OpenEventFace, PostFace, CloseFace, FinishFace}
 
 sixteen : (n : List ℕ) → length (stateFrom n .posted) ≡ 16
@@ -32,48 +35,54 @@ no-none : (b : Bool) (number : ℕ) → 0 ≡ cond b number (numberOf R.State) �
 no-none true number e = (refl, sym e)
 no-none false number e = absurd (omega arith)
 
--- a call on a state that keeps the settings
-call-loads : (n : List ℕ) (s : State) → isState n ≡ true → s .settings ≡ stateFrom n .settings → stateOk s ≡ true → length (s .posted) ≡ 16 → Loads (numbersOf s) s
+-- what is counted is of its sizes
+counted : (n : List ℕ) → isState n ≡ true → Sized (stateFrom n .scalers)
 unfolding stateFrom
-call-loads n s e f h k = state-back s (drop headCount n) h k (state-settings-held n e) f
+counted n e = sized-loaded n e
+
+-- a call on a state that keeps the settings
+call-loads : (n : List ℕ) (s : State) → isState n ≡ true → s .settings ≡ stateFrom n .settings → stateOk s ≡ true → length (s .posted) ≡ 16 → Sized (s .scalers) → Loads (numbersOf s) s
+unfolding stateFrom
+call-loads n s e f h k z = state-back s (drop frontCount n) h k z (state-settings-held n e) f
 
 pub open-event-loads : (n : List ℕ) (event time : ℕ) (n′ : List ℕ) → OpenEventFace n event time 0 n′ → Loads n′ (withEvent (stateFrom n) event time)
 unfolding withEvent
 open-event-loads n event time n′ f =
     let a = no-none (isState n) _ (f .number) in
-    rw (f .numbers) (call-loads n _ (a .0) refl (open-event-kept (stateFrom n) event time (a .1)) (sixteen n))
+    rw (f .numbers) (call-loads n _ (a .0) refl (open-event-kept (stateFrom n) event time (a .1)) (sixteen n) (sized-triggered (stateFrom n .scalers) (counted n (a .0))))
 
 pub open-block-loads : (n words : List ℕ) (block events : ℕ) (n′ words′ : List ℕ) → OpenBlockFace n words block events 0 n′ words′
     → Loads n′ (blockOpened (stateFrom n) block events)
 unfolding withBlock
 open-block-loads n words block events n′ words′ f =
     let a = no-none (isState n) _ (f .number) in
-    rw (f .numbers) (call-loads n _ (a .0) refl (open-block-kept (stateFrom n) (length words) block events (a .1)) refl)
+    rw (f .numbers) (call-loads n _ (a .0) refl (open-block-kept (stateFrom n) (length words) block events (a .1)) refl (counted n (a .0)))
 
 pub post-loads : (n store : List ℕ) (c : ℕ) (w n′ store′ : List ℕ) → PostFace n store c w 0 n′ store′ → Loads n′ (posted (stateFrom n) c)
 unfolding withMark
 post-loads n store c w n′ store′ f =
     let a = no-none (isState n) _ (f .number) in
-    rw (f .numbers) (call-loads n _ (a .0) refl (post-kept (stateFrom n) (length store) c w (a .1)) (length-set (stateFrom n .posted) c true ∙ sixteen n))
+    rw (f .numbers) (call-loads n _ (a .0) refl (post-kept (stateFrom n) (length store) c w (a .1)) (length-set (stateFrom n .posted) c true ∙ sixteen n) (counted n (a .0)))
 
-pub close-loads : (n store words n′ words′ : List ℕ) → CloseFace n store words 0 n′ words′ → Loads n′ (eventClosed (stateFrom n) store)
+pub close-loads : (n store words : List ℕ) (asked : Bool) (n′ words′ : List ℕ) → CloseFace n store words asked 0 n′ words′ → Loads n′ (eventClosed (stateFrom n) asked store)
 unfolding withClosed
-close-loads n store words n′ words′ f =
+close-loads n store words asked n′ words′ f =
     let a = no-none (isState n) _ (f .number) in
-    rw (f .numbers) (call-loads n _ (a .0) refl (closing-kept (stateFrom n) store (length words) (omega (arith, sixteen n)) (a .1)) refl)
+    let z = counted n (a .0) in
+    rw (f .numbers) (call-loads n _ (a .0) refl (closing-kept (stateFrom n) asked store (length words) (omega (arith, sixteen n)) (z .latched .0) (a .1)) refl z)
 
-pub finish-loads : (n words : List ℕ) (r : ℕ) (n′ words′ : List ℕ) → FinishFace n words r n′ words′ → finishOn n (length words) ≡ 0 → Loads n′ (idle (stateFrom n .settings))
+pub finish-loads : (n words : List ℕ) (r : ℕ) (n′ words′ : List ℕ) → FinishFace n words r n′ words′ → finishOn n (length words) ≡ 0 → Loads n′ (idle (stateFrom n .settings) (stateFrom n .scalers))
 unfolding idle
 finish-loads n words r n′ words′ f e =
     let a = no-none (isState n) _ (sym e) in
-    rw (f .numbers, e) (call-loads n _ (a .0) refl (finish-kept (stateFrom n) (length words) (a .1)) refl)
+    rw (f .numbers, e) (call-loads n _ (a .0) refl (finish-kept (stateFrom n) (length words) (a .1)) refl (counted n (a .0)))
 
-pub set-up-loads : (m n n′ : List ℕ) → SetUpFace m n 0 n′ → Loads n′ (idle (settingsFrom m))
+pub set-up-loads : (m n n′ : List ℕ) → SetUpFace m n 0 n′ → Loads n′ (idle (settingsFrom m) nothingCounted)
 unfolding idle
 set-up-loads m n n′ f =
     let z = both-zero _ _ (f .number) in
     let a = no-one (isSettings m) _ (z .0) in
-    rw (f .numbers, no-other (eqb (length n) stateCount) (z .1)) (state-back _ m (set-up-kept (settingsFrom m) (a .1)) refl (a .0) refl)
+    rw (f .numbers, no-other (eqb (length n) stateCount) (z .1)) (state-back _ m (set-up-kept (settingsFrom m) (a .1)) refl sized-none (a .0) refl)
   where
     no-one : (b : Bool) (number : ℕ) → cond b number (numberOf R.Setting) ≡ 0 → (b ≡ true) × (number ≡ 0)
     no-one true number e = (refl, e)

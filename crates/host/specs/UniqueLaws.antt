@@ -1,6 +1,7 @@
 -- Two results that the statement of a call from C allows are equal: the number, and all that was lent. Assumes nothing.
 use Prim.Native.Nat.{ℕ}
 use mathlib.Core.Path.{_≡_, subst}
+use mathlib.Core.Bool.{Bool}
 use mathlib.Core.List.{List}
 use Rattle.ground.specs.ResultLaws.{one-result}
 use Rattle.host.specs.Face.{SetUpFace, OpenBlockFace, OpenEventFace, PostFace, CloseFace, FinishFace}
@@ -31,11 +32,11 @@ post-face-unique n store c w r q x y u v f g =
     let h = subst (λ (k : ℕ). PostFace n store c w k x u) e f in
     (e, (one-result (h .numbers) (g .numbers), one-result (h .rows) (g .rows)))
 
-pub close-face-unique : (n store words : List ℕ) (r q : ℕ) (x y u v : List ℕ) → CloseFace n store words r x u → CloseFace n store words q y v
+pub close-face-unique : (n store words : List ℕ) (asked : Bool) (r q : ℕ) (x y u v : List ℕ) → CloseFace n store words asked r x u → CloseFace n store words asked q y v
     → (r ≡ q) × ((x ≡ y) × (u ≡ v))
-close-face-unique n store words r q x y u v f g =
+close-face-unique n store words asked r q x y u v f g =
     let e = one-result (f .number) (g .number) in
-    let h = subst (λ (k : ℕ). CloseFace n store words k x u) e f in
+    let h = subst (λ (k : ℕ). CloseFace n store words asked k x u) e f in
     (e, (one-result (h .numbers) (g .numbers), one-result (h .buffer) (g .buffer)))
 
 pub finish-face-unique : (n words : List ℕ) (r q : ℕ) (x y u v : List ℕ) → FinishFace n words r x u → FinishFace n words q y v → (r ≡ q) × ((x ≡ y) × (u ≡ v))

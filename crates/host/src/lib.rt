@@ -1,10 +1,11 @@
-// What C links to write: the six calls over numbers that the host lends. The numbers are loaded, the call is made, and an accepted
+// What C links to write: the calls over numbers that the host lends. The numbers are loaded, the call is made, and an accepted
 // one stores what it changed. Numbers that are no state are loaded as what stands for none, which the call refuses with 10.
 ghost use mathlib.Core.Path.{_≡_};
 ghost use Prim.Native.Nat.{_≤_};
 ghost use lib.ListN.{length};
-ghost use Rattle.places.specs.Places.{headCount};
+ghost use mathlib.Core.Bool.{true, false};
 ghost use Rattle.refusals.specs.Refusal.{numberOf};
+ghost use Rattle.places.specs.Places.{frontCount};
 ghost use Rattle.host.specs.Face.{SetUpFace, OpenBlockFace, OpenEventFace, PostFace, CloseFace, FinishFace, inHigh};
 ghost use Rattle.host.specs.Inner.{Kept, eventPlaced, MarkFits, markPlaced};
 use numbers::load::settings_or_none;
@@ -72,14 +73,15 @@ pub extern "C" fn fadc250_open_block(
     put_answer(state, answer)
 }
 
-// What an accepted opening changes of a state's numbers: the phase, the event's number and its time.
-fn place_event(numbers: &mut [u64], number: u32, time: u64)
-    requires { ⌜ headCount ≤ length (now numbers) ⌝ }
-    ensures { λ _. ⌜ now (numbers .exit) ≡ eventPlaced (now (numbers .entry)) number time ⌝ }
+// What an accepted opening changes of a state's numbers: the phase, the event's number and its time, and the triggers.
+fn place_event(numbers: &mut [u64], number: u32, time: u64, triggers: u32)
+    requires { ⌜ frontCount ≤ length (now numbers) ⌝ }
+    ensures { λ _. ⌜ now (numbers .exit) ≡ eventPlaced (now (numbers .entry)) number time triggers ⌝ }
 {
     numbers[places::PHASE] = phase_number(Phase::Event);
     numbers[places::EVENT] = number as u64;
     numbers[places::TIME] = time;
+    numbers[places::TRIGGERS] = triggers as u64;
 }
 
 #[no_mangle]
@@ -90,7 +92,9 @@ pub extern "C" fn fadc250_open_event(state: &mut [u64], number: u32, time: u64) 
     let answer = writer::open_event(loaded, number, time);
     let refusal = answer.refusal;
     if refusals::accepted(refusal) {
-        place_event(state, number, time);
+        let opened = answer.state;
+        let counted = opened.scalers;
+        place_event(state, number, time, counted.triggers);
         return 0;
     }
     refusals::number(refusal)
@@ -125,10 +129,23 @@ pub extern "C" fn fadc250_post(
 
 #[no_mangle]
 pub extern "C" fn fadc250_close(state: &mut [u64], store: &[u16], words: &mut [u32]) -> u32
-    ensures { λ r. ⌜ CloseFace (now (state .entry)) (now (store .entry)) (now (words .entry)) r (now (state .exit)) (now (words .exit)) ⌝ }
+    ensures { λ r. ⌜ CloseFace (now (state .entry)) (now (store .entry)) (now (words .entry)) false r (now (state .exit)) (now (words .exit)) ⌝ }
 {
     let loaded = state_or_none(state);
-    let answer = closing::close(loaded, store, words);
+    let answer = closing::close(loaded, store, words, false);
+    put_answer(state, answer)
+}
+
+#[no_mangle]
+pub extern "C" fn fadc250_close_with_scalers(
+    state: &mut [u64],
+    store: &[u16],
+    words: &mut [u32],
+) -> u32
+    ensures { λ r. ⌜ CloseFace (now (state .entry)) (now (store .entry)) (now (words .entry)) true r (now (state .exit)) (now (words .exit)) ⌝ }
+{
+    let loaded = state_or_none(state);
+    let answer = closing::close(loaded, store, words, true);
     put_answer(state, answer)
 }
 

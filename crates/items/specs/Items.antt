@@ -5,7 +5,7 @@ use mathlib.Core.List.{List, [], _∷_}
 use lib.Dec.{eqb}
 use Rattle.fields.specs.Word.{Field, pack, fit}
 use Rattle.fields.specs.Tag.{isDefining, isContinuation}
-use Rattle.framing.specs.Words.{blockHeader, blockHeaderOf, blockHeaderFixed, parameters, parametersOf, parametersFixed, trailer, trailerOf, eventHeader, eventHeaderOf, triggerTime, triggerTimeOf, triggerTimeHigh, triggerTimeHighOf, triggerTimeHighFixed, empty, emptyOf, filler, fillerOf}
+use Rattle.framing.specs.Words.{blockHeader, blockHeaderOf, blockHeaderFixed, parameters, parametersOf, parametersFixed, trailer, trailerOf, eventHeader, eventHeaderOf, triggerTime, triggerTimeOf, triggerTimeHigh, triggerTimeHighOf, triggerTimeHighFixed, scalers, scalersOf, scalersFixed, scaler, scalerOf, empty, emptyOf, filler, fillerOf}
 use Rattle.raw.specs.Words.{window, windowOf, windowFixed, pulseRaw, pulseRawOf, pulseRawFixed, pair, pairOf, pairFixed}
 use Rattle.measures.specs.Words.{integral, integralOf, time, timeOf, timeFixed, pedestal, pedestalOf}
 use Rattle.items.specs.declared.Form.{Form}
@@ -29,6 +29,8 @@ rowOf (I.Time r) = time r
 rowOf (I.Pedestal r) = pedestal r
 rowOf (I.Empty r) = empty r
 rowOf (I.Filler r) = filler r
+rowOf (I.Scalers r) = scalers r
+rowOf (I.Scaler r) = scaler r
 
 -- a record's word
 unfoldable pub wordOf : Item → ℕ
@@ -62,6 +64,8 @@ formOf (I.Time r) = F.Time
 formOf (I.Pedestal r) = F.Pedestal
 formOf (I.Empty r) = F.Empty
 formOf (I.Filler r) = F.Filler
+formOf (I.Scalers r) = F.Scalers
+formOf (I.Scaler r) = F.Scaler
 
 -- the record that a word of that form holds
 abbrev pub itemFrom : Form → ℕ → Item
@@ -79,6 +83,8 @@ itemFrom F.Time word = I.Time (timeOf word)
 itemFrom F.Pedestal word = I.Pedestal (pedestalOf word)
 itemFrom F.Empty word = I.Empty (emptyOf word)
 itemFrom F.Filler word = I.Filler (fillerOf word)
+itemFrom F.Scalers word = I.Scalers (scalersOf word)
+itemFrom F.Scaler word = I.Scaler (scalerOf word)
 
 -- the bits that a word of that form shows fixed are as shown: zero, and module 1
 abbrev pub fixedIn : Form → ℕ → Bool
@@ -96,6 +102,8 @@ fixedIn F.Time word = timeFixed word
 fixedIn F.Pedestal word = true
 fixedIn F.Empty word = true
 fixedIn F.Filler word = true
+fixedIn F.Scalers word = scalersFixed word
+fixedIn F.Scaler word = true
 
 -- a word of that form with its undefined bits as zero: "14 module empty, 15 filler: 26-22 slot, rest undefined, written 0"
 abbrev pub cleanOf : Form → ℕ → ℕ
@@ -113,24 +121,30 @@ cleanOf F.Time word = word
 cleanOf F.Pedestal word = word
 cleanOf F.Empty word = word / 2 ^ 22 * 2 ^ 22
 cleanOf F.Filler word = word / 2 ^ 22 * 2 ^ 22
+cleanOf F.Scalers word = word
+cleanOf F.Scaler word = word
 
--- bit 31, and the type of a defining word in bits 30-27; a continuation has none
-abbrev pub bitOf : Form → ℕ
-bitOf F.Block = 1
-bitOf F.Parameters = 0
-bitOf F.Trailer = 1
-bitOf F.Event = 1
-bitOf F.Clock = 1
-bitOf F.ClockHigh = 0
-bitOf F.Window = 1
-bitOf F.Raw = 1
-bitOf F.Pair = 0
-bitOf F.Integral = 1
-bitOf F.Time = 1
-bitOf F.Pedestal = 1
-bitOf F.Empty = 1
-bitOf F.Filler = 1
+-- the fields of a row that are its tag: "A defining word has bit 31 set and its type in bits 30-27. A continuation word has bit 31 clear."; 02: the scalers' words
+-- "carry no tag"
+abbrev pub tagFields : Form → ℕ
+tagFields F.Block = 2
+tagFields F.Parameters = 1
+tagFields F.Trailer = 2
+tagFields F.Event = 2
+tagFields F.Clock = 2
+tagFields F.ClockHigh = 1
+tagFields F.Window = 2
+tagFields F.Raw = 2
+tagFields F.Pair = 1
+tagFields F.Integral = 2
+tagFields F.Time = 2
+tagFields F.Pedestal = 2
+tagFields F.Empty = 2
+tagFields F.Filler = 2
+tagFields F.Scalers = 2
+tagFields F.Scaler = 0
 
+-- the type of a defining word; any other has none, 16
 abbrev pub typeOf : Form → ℕ
 typeOf F.Block = 0
 typeOf F.Parameters = 16
@@ -146,10 +160,16 @@ typeOf F.Time = 8
 typeOf F.Pedestal = 10
 typeOf F.Empty = 14
 typeOf F.Filler = 15
+typeOf F.Scalers = 12
+typeOf F.Scaler = 16
 
--- the bits by which a word of that form is known are as it shows: "A defining word has bit 31 set and its type in bits 30-27. A continuation word has bit 31 clear."
+-- a word shows so many fields of a tag: bit 31 and that type, bit 31 clear, or none
+abbrev pub shows : ℕ → ℕ → ℕ → Bool
+shows tags type word = cond (eqb tags 2) (isDefining type word) (cond (eqb tags 1) (isContinuation word) true)
+
+-- the bits by which a word of that form is known are as it shows
 abbrev pub isOf : Form → ℕ → Bool
-isOf f word = cond (eqb (bitOf f) 1) (isDefining (typeOf f) word) (isContinuation word)
+isOf f word = shows (tagFields f) (typeOf f) word
 
 -- a proof that computes opens this file and what it leans on by one name
 unfoldable pub allOpen : Unit {0}

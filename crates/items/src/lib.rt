@@ -9,6 +9,8 @@ use framing::empty::ModuleEmpty;
 use framing::event_header::EventHeader;
 use framing::filler::Filler;
 use framing::parameters::Parameters;
+use framing::scaler::ScalerWord;
+use framing::scalers::ScalerHeader;
 use framing::trailer::BlockTrailer;
 use framing::trigger_time::TriggerTime;
 use framing::trigger_time_high::TriggerTimeHigh;
@@ -35,6 +37,8 @@ pub enum Form {
     Pedestal,
     Empty,
     Filler,
+    Scalers,
+    Scaler,
 }
 
 // One record with its fields.
@@ -53,6 +57,8 @@ pub enum Item {
     Pedestal(PulsePedestal),
     Empty(ModuleEmpty),
     Filler(Filler),
+    Scalers(ScalerHeader),
+    Scaler(ScalerWord),
 }
 
 impl Item {
@@ -74,6 +80,8 @@ impl Item {
             Item::Pedestal(r) => r.build(),
             Item::Empty(r) => r.build(),
             Item::Filler(r) => r.build(),
+            Item::Scalers(r) => r.build(),
+            Item::Scaler(r) => r.build(),
         }
     }
 
@@ -96,6 +104,8 @@ impl Item {
             Form::Pedestal => Item::Pedestal(PulsePedestal::take_apart(word)),
             Form::Empty => Item::Empty(ModuleEmpty::take_apart(word)),
             Form::Filler => Item::Filler(Filler::take_apart(word)),
+            Form::Scalers => Item::Scalers(ScalerHeader::take_apart(word)),
+            Form::Scaler => Item::Scaler(ScalerWord::take_apart(word)),
         }
     }
 }
@@ -119,5 +129,7 @@ pub fn fixed(form: Form, word: u32) -> bool
         Form::Pedestal => true,
         Form::Empty => true,
         Form::Filler => true,
+        Form::Scalers => ScalerHeader::fixed(word),
+        Form::Scaler => true,
     }
 }

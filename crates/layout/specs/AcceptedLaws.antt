@@ -19,7 +19,7 @@ use Rattle.scan.specs.declared.Scan.{Scan}
 use Rattle.scan.specs.After.{startOf}
 use Rattle.meaning.specs.declared.Meaning.the-variants as M
 use Rattle.meaning.specs.Meaning.{unfinished}
-use Rattle.meaning.specs.MeaningLaws.{meaning-alike, meaning-is}
+use Rattle.meaning.specs.MeaningLaws.{meaning-alike}
 use Rattle.questions.specs.Questions.{atLimit, itemWrong}
 use Rattle.reader.specs.declared.Step.{Step}
 use Rattle.reader.specs.declared.Step.the-variants as S
@@ -38,7 +38,7 @@ read-le high low w =
     le-leb (read high low w) (2 ^ (high + 1 - low) - 1) (omega arith)
 
 read-fits : (f : Form) (w : ℕ) → fits (itemFrom f w) ≡ true
-unfolding fits W.blockHeader W.blockHeaderOf W.parameters W.parametersOf W.trailer W.trailerOf W.eventHeader W.eventHeaderOf W.triggerTime W.triggerTimeOf W.triggerTimeHigh W.triggerTimeHighOf W.empty W.emptyOf W.filler W.fillerOf R.window R.windowOf R.pulseRaw R.pulseRawOf R.pair R.pairOf N.integral N.integralOf N.time N.timeOf N.pedestal N.pedestalOf
+unfolding fits W.blockHeader W.blockHeaderOf W.parameters W.parametersOf W.trailer W.trailerOf W.eventHeader W.eventHeaderOf W.triggerTime W.triggerTimeOf W.triggerTimeHigh W.triggerTimeHighOf W.scalers W.scalersOf W.scaler W.scalerOf W.empty W.emptyOf W.filler W.fillerOf R.window R.windowOf R.pulseRaw R.pulseRawOf R.pair R.pairOf N.integral N.integralOf N.time N.timeOf N.pedestal N.pedestalOf
 read-fits F.Block w = both refl (both refl (both (read-le 26 22 w) (both refl (both (read-le 17 8 w) (read-le 7 0 w)))))
 read-fits F.Parameters w = both refl (both refl (both (read-le 28 18 w) (both (read-le 17 9 w) (read-le 8 0 w))))
 read-fits F.Trailer w = both refl (both refl (both (read-le 26 22 w) (read-le 21 0 w)))
@@ -53,6 +53,8 @@ read-fits F.Time w = both refl (both refl (both (read-le 26 23 w) (both (read-le
 read-fits F.Pedestal w = both refl (both refl (both (read-le 26 23 w) (both (read-le 22 21 w) (both (read-le 20 12 w) (read-le 11 0 w)))))
 read-fits F.Empty w = both refl (both refl (both (read-le 26 22 w) refl))
 read-fits F.Filler w = both refl (both refl (both (read-le 26 22 w) refl))
+read-fits F.Scalers w = both refl (both refl (both refl (read-le 5 0 w)))
+read-fits F.Scaler w = read-le 31 0 w
 
 -- ---- what was taken may stand there
 
@@ -62,7 +64,7 @@ stood s w f u a =
     let t : isOf f (wordOf (itemFrom f w)) ≡ true = rw g at (says (itemFrom f w) (read-fits f w) .tag) in
     record {
       limit = a .off .0;
-      form = meaning-alike s f (wordOf (itemFrom f w)) w t (meaning-is s w (a .form)) ∙ (a .form ∙ ap M.Form (sym g));
+      form = meaning-alike s f (wordOf (itemFrom f w)) w t (a .form) ∙ ap M.Form (sym g);
       slot = a .off .1 .1 .0;
       fields = or-none (not (fixedIn f w)) (itemWrong s (itemFrom f w)) (a .off .1 .1 .1 .0) .1;
       count = a .off .1 .1 .1 .1 .0;

@@ -17,7 +17,7 @@ use Rattle.items.specs.declared.Item.the-variants as I
 use Rattle.scan.specs.declared.Stage.{Stage}
 use Rattle.scan.specs.declared.Stage.the-variants as P
 use Rattle.scan.specs.declared.Scan.{Scan}
-use Rattle.scan.specs.After.{onward, pairedBy, filledBy, stageAfter, after, startOf}
+use Rattle.scan.specs.After.{onward, pairedBy, filledBy, scaledBy, stageAfter, after, startOf}
 use Rattle.meaning.specs.declared.Meaning.the-variants as M
 use Rattle.meaning.specs.Meaning.{meaningIn, meaningAt, isEnd, unfinishedBy, unfinished}
 use Rattle.questions.specs.Questions.{atLimit}
@@ -59,6 +59,7 @@ cap P.Items = 3
 cap (P.Window n odd) = 3
 cap (P.Raw n some) = 3
 cap (P.Tail n) = n
+cap (P.Scalers n) = 3
 
 -- no trailer was read and the place is within the limit, or it was and at most three words came after
 abbrev Placed : Scan → Type 0
@@ -74,6 +75,7 @@ cap-three P.Items h = refl
 cap-three (P.Window n odd) h = refl
 cap-three (P.Raw n some) h = refl
 cap-three (P.Tail n) h = absurd (true≢false (sym h))
+cap-three (P.Scalers n) h = refl
 
 cap-window : (b : Bool) (n : ℕ) (odd : Bool) → cap (cond b P.Items (P.Window n odd)) ≡ 3
 cap-window true n odd = refl
@@ -89,6 +91,7 @@ cap-paired P.Items flag = refl
 cap-paired (P.Window n odd) flag = cap-window (leb n 1) (n - 1) odd
 cap-paired (P.Raw n some) flag = refl
 cap-paired (P.Tail n) flag = refl
+cap-paired (P.Scalers n) flag = refl
 
 cap-filled : (p : Stage) → unfinishedBy p ≡ true → cap (filledBy p) ≡ cap p
 cap-filled P.Start h = refl
@@ -100,6 +103,19 @@ cap-filled P.Items h = refl
 cap-filled (P.Window n odd) h = refl
 cap-filled (P.Raw n some) h = refl
 cap-filled (P.Tail n) h = absurd (true≢false (sym h))
+cap-filled (P.Scalers n) h = refl
+
+cap-scaled : (p : Stage) → cap (scaledBy p) ≡ cap p
+cap-scaled P.Start = refl
+cap-scaled P.Head = refl
+cap-scaled P.Front = refl
+cap-scaled P.Opened = refl
+cap-scaled (P.Timed d) = refl
+cap-scaled P.Items = refl
+cap-scaled (P.Window n odd) = refl
+cap-scaled (P.Raw n some) = refl
+cap-scaled (P.Tail n) = refl
+cap-scaled (P.Scalers n) = refl
 
 cap-after : (s : Scan) (x : Item) → unfinished s ≡ true → cap (stageAfter s x) ≤ 3
 cap-after s (I.Block r) h = omega arith
@@ -116,6 +132,8 @@ cap-after s (I.Time r) h = omega arith
 cap-after s (I.Pedestal r) h = omega arith
 cap-after s (I.Empty r) h = omega arith
 cap-after s (I.Filler r) h = omega (arith, cap-filled (s .stage) h, cap-three (s .stage) h)
+cap-after s (I.Scalers r) h = omega arith
+cap-after s (I.Scaler r) h = omega (arith, cap-scaled (s .stage), cap-three (s .stage) h)
 
 -- in the tail only a filler stands, where one may
 tail-in : (n k : ℕ) (f : Form) → meaningIn M.End (cond (eqb n 0) [] (F.Filler ∷ [])) k ≡ M.Form f → (f ≡ F.Filler) × (0 < n)
@@ -166,6 +184,7 @@ placed-after s word f u p a =
         let t = tail-only s n word f e (a .form) in
         let d : cap (u .stage) ≡ n - 1 = ap cap (stage ∙ ap (λ (g : Form). stageAfter s (itemFrom g word)) (t .0) ∙ ap filledBy e) in
         omega (arith, next, d, ap cap e, t .1)
+    go (P.Scalers n) e next stage = open-stage (P.Scalers n) e refl next stage
 
 abbrev pub placeOf : Out → ℕ
 placeOf (Whole n) = n

@@ -13,6 +13,8 @@ use Rattle.framing.specs.declared.trailer.BlockTrailer.{BlockTrailer}
 use Rattle.framing.specs.declared.event_header.EventHeader.{EventHeader}
 use Rattle.framing.specs.declared.trigger_time.TriggerTime.{TriggerTime}
 use Rattle.framing.specs.declared.trigger_time_high.TriggerTimeHigh.{TriggerTimeHigh}
+use Rattle.framing.specs.declared.scalers.ScalerHeader.{ScalerHeader}
+use Rattle.framing.specs.declared.scaler.ScalerWord.{ScalerWord}
 use Rattle.framing.specs.declared.empty.ModuleEmpty.{ModuleEmpty}
 use Rattle.framing.specs.declared.filler.Filler.{Filler}
 use Rattle.raw.specs.declared.window.WindowRaw.{WindowRaw}
@@ -41,11 +43,17 @@ pub data Clock : Type 0 where
   clock27 : TriggerTime → Clock
   clock48 : TriggerTime → TriggerTimeHigh → Clock
 
--- "An event: header, optionally one or two time words, then any number of .. items."
+-- 02: "On request a closed event ends with type 12 .. and the latched words"
+pub data Tail : Type 0 where
+  no-scalers : Tail
+  scalers : ScalerHeader → List ScalerWord → Tail
+
+-- "An event: header, optionally one or two time words, then any number of .. items."; the scalers end it
 pub record EventTree : Type 0 where
   pub header : EventHeader
   pub clock : Clock
   pub pieces : List Piece
+  pub tail : Tail
 
 -- "optional parameters"
 pub data Setup : Type 0 where
@@ -86,8 +94,15 @@ clockOf no-clock = []
 clockOf (clock27 r) = I.Clock r ∷ []
 clockOf (clock48 r high) = I.Clock r ∷ I.ClockHigh high ∷ []
 
+abbrev pub eachScaler : List ScalerWord → List Item
+eachScaler ws = map (λ w. I.Scaler w) ws
+
+abbrev pub tailOf : Tail → List Item
+tailOf no-scalers = []
+tailOf (scalers r ws) = I.Scalers r ∷ eachScaler ws
+
 abbrev pub eventOf : EventTree → List Item
-eventOf e = I.Event (e .header) ∷ (clockOf (e .clock) ++ piecesOf (e .pieces))
+eventOf e = I.Event (e .header) ∷ (clockOf (e .clock) ++ (piecesOf (e .pieces) ++ tailOf (e .tail)))
 
 abbrev pub eventsOf : List EventTree → List Item
 eventsOf [] = []
@@ -158,11 +173,17 @@ ClockOk no-clock = Unit {0}
 ClockOk (clock27 r) = Unit {0}
 ClockOk (clock48 r high) = high .high % 8 ≡ r .middle
 
+-- 02: "They carry no tag: the reader takes the stated count, 0 to 63"; the field's six bits bound it (`Widths`)
+abbrev pub TailOk : Tail → Type 0
+TailOk no-scalers = Unit {0}
+TailOk (scalers r ws) = length ws ≡ r .count
+
 -- an event of a block of slot k
 pub record EventOk (k : ℕ) (e : EventTree) : Type 0 where
   pub slot : e .header .slot ≡ k
   pub clock : ClockOk (e .clock)
   pub pieces : Each PieceOk (e .pieces)
+  pub tail : TailOk (e .tail)
 
 pub record BlockOk (b : BlockTree) : Type 0 where
   -- "events 1-255"; "exactly the stated events"

@@ -1,7 +1,7 @@
 -- The records of a well-formed tree stand as the layout asks. Assumes nothing.
 use Prim.Native.Nat.{ℕ, zero, suc, _+_, _-_, _%_, _≤_, _<_}
 use mathlib.Core.Path.{_≡_, refl, sym, ap, _∙_, subst}
-use mathlib.Core.Bool.{Bool, true, false, not}
+use mathlib.Core.Bool.{Bool, true, false, not, cond}
 use mathlib.Core.List.{List, [], _∷_, _++_, map}
 use native.Mathlib.Omega.{arith}
 use borrow.Author.Tests.{le-leb, lt-leb, leb-true, eq-eqb, ne-eqb}
@@ -9,10 +9,11 @@ use lib.Dec.{eqb, leb}
 use lib.ListN.{length, length-append}
 use Rattle.ground.specs.TestsLaws.{and-right}
 use Rattle.limits.specs.Limits.{mostSamples, pairsOf, mostPairs}
-use Rattle.limits.specs.LimitsLaws.{most-samples}
+use Rattle.fields.specs.Word.{read}
 use Rattle.fields.specs.Tag.{isDefining, isContinuation}
 use Rattle.framing.specs.declared.block_header.BlockHeader.{BlockHeader}
 use Rattle.framing.specs.declared.trailer.BlockTrailer.{BlockTrailer}
+use Rattle.framing.specs.declared.scaler.ScalerWord.{ScalerWord}
 use Rattle.framing.specs.declared.filler.Filler.{Filler}
 use Rattle.raw.specs.declared.window.WindowRaw.{WindowRaw}
 use Rattle.raw.specs.declared.pair.SamplePair.{SamplePair}
@@ -26,7 +27,7 @@ use Rattle.items.specs.declared.Item.the-variants as I
 use Rattle.scan.specs.declared.Stage.{Stage}
 use Rattle.scan.specs.declared.Stage.the-variants as P
 use Rattle.scan.specs.declared.Scan.{Scan}
-use Rattle.scan.specs.After.{onward, pairedBy, filledBy, slotAfter, after, startOf}
+use Rattle.scan.specs.After.{onward, pairedBy, filledBy, scaledBy, slotAfter, after, startOf}
 use Rattle.meaning.specs.declared.Meaning.the-variants as M
 use Rattle.meaning.specs.Meaning.{moreBy, moreIn, allowedIn, otherIn, meaningIn, meaningAt, unfinishedBy}
 use Rattle.meaning.specs.MeaningLaws.{meaning-more, meaning-type}
@@ -34,7 +35,7 @@ use Rattle.questions.specs.Questions.{atLimit, slotWrong, flagBy, flagWrong, it
 use Rattle.layout.specs.Layout.{Stands, Follow, IsBlock}
 use Rattle.layout.specs.LayoutLaws.{says}
 use Rattle.layout.specs.PassLaws.{Inside, inside-none, inside-append, Inner, Edge, inner-edge, not-limit, both, onward-one}
-use Rattle.layout.specs.Grammar.{Piece, window, raw, integral, time, pedestal, Clock, no-clock, clock27, clock48, EventTree, Setup, no-setup, setup, BlockTree, Tree, block, empty, eachPair, pieceOf, piecesOf, clockOf, eventOf, eventsOf, setupOf, bodyOf, recordsOf, Each, LastPair, full, short, WindowPairs, RawPairs, PieceOk, ClockOk, EventOk, BlockOk, WellFormed, Widths}
+use Rattle.layout.specs.Grammar.{Piece, window, raw, integral, time, pedestal, Clock, no-clock, clock27, clock48, Tail, no-scalers, scalers, EventTree, Setup, no-setup, setup, BlockTree, Tree, block, empty, eachPair, pieceOf, piecesOf, clockOf, eachScaler, tailOf, eventOf, eventsOf, setupOf, bodyOf, recordsOf, Each, LastPair, full, short, WindowPairs, RawPairs, PieceOk, ClockOk, TailOk, EventOk, BlockOk, WellFormed, Widths}
 
 widths-split : (xs ys : List Item) → Widths (xs ++ ys) → Widths xs × Widths ys
 widths-split [] ys w = (tt, w)
@@ -164,14 +165,44 @@ clock-inside (clock48 r high) s v e l f =
     step s _ _ (s .left) Inner (omega arith) (by-type s 3 (rw e)) refl refl refl (f .0) refl
     (λ k. step _ (I.ClockHigh high) [] (s .left) Inner (omega arith) (by-more _ refl) refl (ap not (eq-eqb _ _ v)) refl (f .1 .0) refl (λ k. inside-none _ Inner (λ i n. refl)))
 
+-- while words of the scalers are to come every word is one
+by-count : (s : Scan) (n : ℕ) → s .stage ≡ P.Scalers n → (n ≡ 0 → ⊥) → (w : ℕ) → isOf F.Scaler w ≡ true → meaningAt s w ≡ M.Form F.Scaler
+unfolding meaningAt
+by-count s n e z w h = rw (e, ne-eqb n 0 z) (go (eqb (read 31 31 w) 0))
+  where
+    go : (b : Bool) → cond b (M.Form F.Scaler) (M.Form F.Scaler) ≡ M.Form F.Scaler
+    go true = refl
+    go false = refl
+
+scalers-inside : (n : ℕ) (ws : List ScalerWord) (s : Scan) → length ws ≡ n → s .stage ≡ P.Scalers n → s .place + length (eachScaler ws) < 4194303 → Widths (eachScaler ws)
+    → Inside s (eachScaler ws) (s .left) Edge
+unfolding after
+scalers-inside n [] s v e l f = inside-none s Edge (rw (e, ← v) (refl, refl))
+scalers-inside n (w ∷ ws) s v e l f =
+    step s (I.Scaler w) (eachScaler ws) (s .left) Edge (omega arith) (by-count s n e (λ q. omega (arith, v))) refl refl refl (f .0) refl
+    (λ k. scalers-inside (n - 1) ws _ (omega (arith, v)) (ap scaledBy e) (omega arith) (f .1))
+
+tail-inside : (t : Tail) (s : Scan) → TailOk t → Inner s → s .place + length (tailOf t) < 4194303 → Widths (tailOf t) → Inside s (tailOf t) (s .left) Edge
+unfolding after
+tail-inside no-scalers s v h l f = inside-none s Edge (inner-edge s h)
+tail-inside (scalers r ws) s v h l f =
+    step s _ (eachScaler ws) (s .left) Edge (omega arith) (by-type s 12 (h 12 refl)) refl refl refl (f .0) refl (λ k. scalers-inside (r .count) ws _ v refl (omega arith) (f .1))
+
 event-inside : (e : EventTree) (k : ℕ) (s : Scan) → EventOk k e → Edge s → s .slot ≡ k → 0 < s .left → s .place + length (eventOf e) < 4194303 → Widths (eventOf e)
-    → Inside s (eventOf e) (s .left - 1) Inner
+    → Inside s (eventOf e) (s .left - 1) Edge
 unfolding after
 event-inside e k s v g d o l f =
-    let w = widths-split (clockOf (e .clock)) (piecesOf (e .pieces)) (f .1) in
-    step s _ _ (s .left - 1) Inner (omega arith) (by-type s 2 (g .0)) (ap not (eq-eqb _ _ (v .slot ∙ sym d))) refl (ne-eqb (s .left) 0 (λ q. omega arith)) (f .0) refl
-    (λ j. inside-fine _ (clockOf (e .clock)) (piecesOf (e .pieces)) (s .left - 1) (omega arith)
-    (clock-inside (e .clock) _ (v .clock) refl (omega (arith, length-append (clockOf (e .clock)) (piecesOf (e .pieces)))) (w .0)) (pieces-fine (e .pieces) (v .pieces) (w .1)))
+    let items : List Item = piecesOf (e .pieces) in
+    let end : List Item = tailOf (e .tail) in
+    let w = widths-split (clockOf (e .clock)) (items ++ end) (f .1) in
+    let u = widths-split items end (w .1) in
+    let n : length (clockOf (e .clock) ++ (items ++ end)) ≡ length (clockOf (e .clock)) + length (items ++ end) = length-append (clockOf (e .clock)) (items ++ end) in
+    let m : length (items ++ end) ≡ length items + length end = length-append items end in
+    step s _ _ (s .left - 1) Edge (omega arith) (by-type s 2 (g .0)) (ap not (eq-eqb _ _ (v .slot ∙ sym d))) refl (ne-eqb (s .left) 0 (λ q. omega arith)) (f .0) refl
+    (λ j. inside-append _ (clockOf (e .clock)) (items ++ end) (s .left - 1) (s .left - 1) Inner Edge (clock-inside (e .clock) _ (v .clock) refl (omega (arith, n)) (w .0))
+    (λ t p q r h. inside-append t items end (s .left - 1) (s .left - 1) Inner Edge
+    (subst (λ (i : ℕ). Inside t items i Inner) r (pieces-fine (e .pieces) (v .pieces) (u .0) t h (omega (arith, p, n, m))))
+    (λ a b c i k. subst (λ (j : ℕ). Inside a end j Edge) i (tail-inside (e .tail) a (v .tail) k (omega (arith, b, p, n, m)) (u .1)))))
 
 events-inside : (es : List EventTree) (k : ℕ) (s : Scan) → Each (EventOk k) es → Edge s → s .slot ≡ k → s .left ≡ length es → s .place + length (eventsOf es) < 4194303
     → Widths (eventsOf es) → Inside s (eventsOf es) 0 Edge
@@ -179,8 +210,8 @@ events-inside [] k s v g d o l f = subst (λ (n : ℕ). Inside s [] n Edge) o (i
 events-inside (e ∷ es) k s v g d o l f =
     let w = widths-split (eventOf e) (eventsOf es) f in
     let n : length (eventsOf (e ∷ es)) ≡ length (eventOf e) + length (eventsOf es) = length-append (eventOf e) (eventsOf es) in
-    inside-append s (eventOf e) (eventsOf es) (s .left - 1) 0 Inner Edge (event-inside e k s (v .0) g d (omega (arith, o)) (omega (arith, n)) (w .0))
-    (λ t p q r h. events-inside es k t (v .1) (inner-edge t h) (q ∙ d) (omega (arith, r, o)) (omega (arith, n, p)) (w .1))
+    inside-append s (eventOf e) (eventsOf es) (s .left - 1) 0 Edge Edge (event-inside e k s (v .0) g d (omega (arith, o)) (omega (arith, n)) (w .0))
+    (λ t p q r h. events-inside es k t (v .1) h (q ∙ d) (omega (arith, r, o)) (omega (arith, n, p)) (w .1))
 
 -- ---- a block
 

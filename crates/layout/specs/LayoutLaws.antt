@@ -12,7 +12,7 @@ use Rattle.fields.specs.Word.{Field, read, pack, fit}
 use Rattle.fields.specs.Tag.{defining, isDefining, continuation, isContinuation}
 use Rattle.fields.specs.WordLaws.{tiles, taken, true-T}
 use Rattle.framing.specs.Words as W
-use Rattle.framing.specs.WordsLaws.{blockHeader-there, parameters-there, trailer-there, eventHeader-there, triggerTime-there, triggerTimeHigh-there, empty-there, filler-there}
+use Rattle.framing.specs.WordsLaws.{blockHeader-there, parameters-there, trailer-there, eventHeader-there, triggerTime-there, triggerTimeHigh-there, scalers-there, scaler-there, empty-there, filler-there}
 use Rattle.raw.specs.Words as R
 use Rattle.raw.specs.WordsLaws.{window-there, pulseRaw-there, pair-there}
 use Rattle.measures.specs.Words as N
@@ -57,7 +57,7 @@ by-bit fs t h =
     rw b
 
 pub says : (x : Item) → fits x ≡ true → WordSays x (wordOf x)
-unfolding fits wordOf W.blockHeader W.blockHeaderFixed W.parameters W.parametersFixed W.trailer W.eventHeader W.triggerTime W.triggerTimeHigh W.triggerTimeHighFixed W.empty W.filler R.window R.windowFixed R.pulseRaw R.pulseRawFixed R.pair R.pairFixed N.integral N.time N.timeFixed N.pedestal
+unfolding fits wordOf W.blockHeader W.blockHeaderFixed W.parameters W.parametersFixed W.trailer W.eventHeader W.triggerTime W.triggerTimeHigh W.triggerTimeHighFixed W.scalers W.scalersFixed W.scaler W.empty W.filler R.window R.windowFixed R.pulseRaw R.pulseRawFixed R.pair R.pairFixed N.integral N.time N.timeFixed N.pedestal
 says (I.Block r) h = record { tag = by-type 0 (drop 2 (W.blockHeader r)) tt h; fixed = taken (W.blockHeader r) (λ vs. eqb (getD vs 3 0) 1) refl tt (true-T h); item = ap I.Block (blockHeader-there r h) }
 says (I.Parameters r) h = record { tag = by-bit (drop 1 (W.parameters r)) tt h; fixed = taken (W.parameters r) (λ vs. eqb (getD vs 1 0) 0) refl tt (true-T h); item = ap I.Parameters (parameters-there r h) }
 says (I.Trailer r) h = record { tag = by-type 1 (drop 2 (W.trailer r)) tt h; fixed = refl; item = ap I.Trailer (trailer-there r h) }
@@ -72,12 +72,14 @@ says (I.Time r) h = record { tag = by-type 8 (drop 2 (N.time r)) tt h; fixed = t
 says (I.Pedestal r) h = record { tag = by-type 10 (drop 2 (N.pedestal r)) tt h; fixed = refl; item = ap I.Pedestal (pedestal-there r h) }
 says (I.Empty r) h = record { tag = by-type 14 (drop 2 (W.empty r)) tt h; fixed = refl; item = ap I.Empty (empty-there r h) }
 says (I.Filler r) h = record { tag = by-type 15 (drop 2 (W.filler r)) tt h; fixed = refl; item = ap I.Filler (filler-there r h) }
+says (I.Scalers r) h = record { tag = by-type 12 (drop 2 (W.scalers r)) tt h; fixed = taken (W.scalers r) (λ vs. eqb (getD vs 2 0) 0) refl tt (true-T h); item = ap I.Scalers (scalers-there r h) }
+says (I.Scaler r) h = record { tag = refl; fixed = refl; item = ap I.Scaler (scaler-there r h) }
 
 -- ---- one step
 
 -- a word that shows the record's bits is what the record's own word is
 form-of : (s : Scan) (x : Item) (w : ℕ) → WordSays x w → Stands s x → meaningAt s w ≡ M.Form (formOf x)
-form-of s x w a h = meaning-alike s (formOf x) w (wordOf x) (a .tag) (says x (h .widths) .tag) ∙ h .form
+form-of s x w a h = meaning-alike s (formOf x) w (wordOf x) (a .tag) (h .form)
 
 step-there : (s : Scan) (x : Item) (w : ℕ) → WordSays x w → Stands s x → stepAt s w ≡ S.Went (formOf x) (after s x)
 unfolding stepAt refusalOf firstOf

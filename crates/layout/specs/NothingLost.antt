@@ -6,7 +6,7 @@ use mathlib.Core.Bool.{true, not}
 use mathlib.Core.List.{List, [], _∷_}
 use borrow.Author.Tests.{not-false}
 use Rattle.ground.specs.TestsLaws.{or-none}
-use Rattle.framing.specs.WordsLaws.{blockHeader-back, parameters-back, trailer-back, eventHeader-back, triggerTime-back, triggerTimeHigh-back, empty-back, filler-back}
+use Rattle.framing.specs.WordsLaws.{blockHeader-back, parameters-back, trailer-back, eventHeader-back, triggerTime-back, triggerTimeHigh-back, scalers-back, scaler-back, empty-back, filler-back}
 use Rattle.raw.specs.WordsLaws.{window-back, pulseRaw-back, pair-back}
 use Rattle.measures.specs.WordsLaws.{integral-back, time-back, pedestal-back}
 use Rattle.items.specs.Items.{wordOf, formOf, itemFrom, fixedIn, cleanOf, isOf}
@@ -52,6 +52,8 @@ word-back F.Time w l t z = time-back w l t z
 word-back F.Pedestal w l t z = pedestal-back w l t
 word-back F.Empty w l t z = empty-back w l t
 word-back F.Filler w l t z = filler-back w l t
+word-back F.Scalers w l t z = scalers-back w l t z
+word-back F.Scaler w l t z = scaler-back w l
 
 pub form-back : (f : Form) (w : ℕ) → formOf (itemFrom f w) ≡ f
 form-back F.Block w = refl
@@ -68,6 +70,8 @@ form-back F.Time w = refl
 form-back F.Pedestal w = refl
 form-back F.Empty w = refl
 form-back F.Filler w = refl
+form-back F.Scalers w = refl
+form-back F.Scaler w = refl
 
 -- what was taken, built again, is the word
 took : (s : Scan) (w : ℕ) (f : Form) (u : Scan) → w < 2 ^ 32 → Accepted s w f u → wordOf (itemFrom f w) ≡ cleanOf (formOf (itemFrom f w)) w

@@ -2,25 +2,26 @@
 use Prim.Native.Nat.{ℕ, zero, suc, _+_, _-_, _%_, _≤_, _<_}
 use mathlib.Core.Path.{_≡_, refl, sym, ap, _∙_, subst}
 use mathlib.Core.Bool.{Bool, true, false, not, cond, _&&_, _||_, true≢false}
-use mathlib.Core.List.{List, [], _∷_, _++_, map}
+use mathlib.Core.List.{List, [], _∷_, _++_, map, append-assoc}
 use native.Mathlib.Omega.{arith}
 use borrow.Author.Tests.{leb-true, leb-false, eqb-true, eqb-false, ne-eqb, not-false}
 use lib.Dec.{eqb, leb}
 use lib.ListN.{length, length-append}
 use Rattle.ground.specs.TestsLaws.{and-left, and-right, or-none}
 use Rattle.limits.specs.Limits.{mostSamples, pairsOf}
-use Rattle.limits.specs.LimitsLaws.{most-samples}
+use Rattle.fields.specs.Word.{fieldAt}
 use Rattle.fields.specs.Tag.{isDefining, isContinuation}
 use Rattle.framing.specs.declared.block_header.BlockHeader.{BlockHeader}
 use Rattle.framing.specs.declared.trailer.BlockTrailer.{BlockTrailer}
 use Rattle.framing.specs.declared.event_header.EventHeader.{EventHeader}
 use Rattle.framing.specs.declared.trigger_time.TriggerTime.{TriggerTime}
+use Rattle.framing.specs.declared.scaler.ScalerWord.{ScalerWord}
 use Rattle.framing.specs.declared.filler.Filler.{Filler}
 use Rattle.framing.specs.Words as W
 use Rattle.raw.specs.declared.window.WindowRaw.{WindowRaw}
 use Rattle.raw.specs.declared.pair.SamplePair.{SamplePair}
 use Rattle.raw.specs.Words as R
-use Rattle.items.specs.Items.{wordOf, fits, formOf, isOf}
+use Rattle.items.specs.Items.{wordOf, fits, formOf, tagFields, isOf}
 use Rattle.items.specs.declared.Form.{Form}
 use Rattle.items.specs.declared.Form.the-variants as F
 use Rattle.items.specs.declared.Item.{Item}
@@ -28,14 +29,15 @@ use Rattle.items.specs.declared.Item.the-variants as I
 use Rattle.scan.specs.declared.Stage.{Stage}
 use Rattle.scan.specs.declared.Stage.the-variants as P
 use Rattle.scan.specs.declared.Scan.{Scan}
-use Rattle.scan.specs.After.{onward, pairedBy, filledBy, after, startOf}
+use Rattle.scan.specs.After.{onward, pairedBy, filledBy, scaledBy, after, startOf}
+use Rattle.meaning.specs.declared.Meaning.{Meaning}
 use Rattle.meaning.specs.declared.Meaning.the-variants as M
 use Rattle.meaning.specs.Meaning.{moreBy, moreIn, opening, edges, inner, allowedBy, allowedIn, otherBy, otherIn, meaningIn, unfinishedBy, isUnallowed, isEnd}
-use Rattle.meaning.specs.MeaningLaws.{meaning-more, meaning-type}
+use Rattle.meaning.specs.MeaningLaws.{meaning-more, meaning-type, scaler-any}
 use Rattle.questions.specs.Questions.{flagBy, flagWrong, timeBy}
 use Rattle.layout.specs.Layout.{Stands, Follow, IsBlock}
 use Rattle.layout.specs.LayoutLaws.{says}
-use Rattle.layout.specs.Grammar.{Piece, window, raw, integral, time, pedestal, no-clock, clock27, clock48, EventTree, Setup, no-setup, setup, Tree, block, empty, eachPair, pieceOf, piecesOf, clockOf, eventsOf, setupOf, recordsOf, Each, BothValid, OddEnd, WindowPairs, LastPair, full, short, RawPairs, PieceOk, ClockOk, EventOk, TreeOk, WellFormed, Widths}
+use Rattle.layout.specs.Grammar.{Piece, window, raw, integral, time, pedestal, no-clock, clock27, clock48, Tail, no-scalers, scalers, EventTree, Setup, no-setup, setup, Tree, block, empty, eachPair, pieceOf, piecesOf, clockOf, eachScaler, tailOf, eventsOf, setupOf, recordsOf, Each, BothValid, OddEnd, WindowPairs, LastPair, full, short, RawPairs, PieceOk, ClockOk, TailOk, EventOk, TreeOk, WellFormed, Widths}
 
 -- ---- the rest of the records, by where the reading stands
 
@@ -66,15 +68,18 @@ record Rest (L : List Item → Type 0) (k left place : ℕ) (xs : List Item) : T
   lead : L front
   ending : Ending k left place front xs
 
--- what is left of an event: `first`, then pieces
+-- what is left of an event: `first`, then pieces and the tail
 record Then {A : Type 0} (of : A → List Item) (ok : A → Type 0) (ys : List Item) : Type 0 where
   first : A
   fine : ok first
   pieces : List Piece
   each : Each PieceOk pieces
-  are : of first ++ piecesOf pieces ≡ ys
+  tail : Tail
+  closed : TailOk tail
+  are : of first ++ (piecesOf pieces ++ tailOf tail) ≡ ys
 
--- the kinds: nothing, what is left of a block's head, of an event with its time, of a window's n pairs, of at most n pairs of type 6, at least one where none was read
+-- the kinds: nothing, what is left of a block's head, of an event with its time, of a window's n pairs, of at most n pairs of type 6, at least one where none was read,
+-- of an event's scalers
 abbrev Nothing : List Item → Type 0
 Nothing ys = [] ≡ ys
 
@@ -96,6 +101,9 @@ Windowed n b ys = (w : ℕ) → 1 ≤ w → pairsOf w ≡ n → eqb (w % 2) 1 �
 abbrev RawLeft : ℕ → Bool → List SamplePair → Type 0
 RawLeft n some ps = (length ps ≤ n) × (some ≡ false → 1 ≤ length ps) × (1 ≤ length ps → RawPairs ps)
 
+abbrev Scaled : ℕ → List Item → Type 0
+Scaled n ys = (ws : List ScalerWord) × (length ws ≡ n) × (eachScaler ws ≡ ys)
+
 abbrev Made : List Item → Type 0
 Made xs = (t : Tree) × TreeOk t × (recordsOf t ≡ xs)
 
@@ -113,6 +121,7 @@ Shape P.Items s xs = Led s Pieces xs
 Shape (P.Window n b) s xs = Led s (Windowed n b) xs
 Shape (P.Raw n some) s xs = Led s (Then eachPair (RawLeft n some)) xs
 Shape (P.Tail n) s xs = Fillers n (s .slot) xs
+Shape (P.Scalers n) s xs = Led s (Scaled n) xs
 
 abbrev Here : Scan → List Item → Type 0
 Here s xs = Shape (s .stage) s xs
@@ -135,15 +144,17 @@ turn r f = record { front = r .front; lead = f (r .front) (r .lead); ending = r 
 
 -- records that join what comes first
 join : {A B : Type 0} {of : A → List Item} {to : B → List Item} {ok : A → Type 0} {good : B → Type 0} {ys : List Item} (xs : List Item) (t : Then of ok ys) (b : B) → good b
-    → to b ++ piecesOf (t .pieces) ≡ xs ++ (of (t .first) ++ piecesOf (t .pieces)) → Then to good (xs ++ ys)
-join xs t b o q = record { first = b; fine = o; pieces = t .pieces; each = t .each; are = q ∙ ap (λ (l : List Item). xs ++ l) (t .are) }
+    → to b ++ (piecesOf (t .pieces) ++ tailOf (t .tail)) ≡ xs ++ (of (t .first) ++ (piecesOf (t .pieces) ++ tailOf (t .tail))) → Then to good (xs ++ ys)
+join xs t b o q = record { first = b; fine = o; pieces = t .pieces; each = t .each; tail = t .tail; closed = t .closed; are = q ∙ ap (λ (l : List Item). xs ++ l) (t .are) }
 
 -- a record that makes a piece with what comes first
 piece : {A : Type 0} {of : A → List Item} {ok : A → Type 0} {k left : ℕ} {xs : List Item} (x : Item) (place : ℕ) → Rest (Then of ok) k left (onward place) xs → (g : A → Piece)
     → ((a : A) → pieceOf (g a) ≡ x ∷ of a) → ((a : A) → ok a → PieceOk (g a)) → Rest Pieces k left place (x ∷ xs)
 piece x place r g w f =
-    keep x place r (λ ys t. let a = ap (λ (l : List Item). l ++ piecesOf (t .pieces)) (w (t .first)) ∙ ap (λ (l : List Item). x ∷ l) (t .are) in
-    record { first = tt; fine = tt; pieces = g (t .first) ∷ t .pieces; each = (f (t .first) (t .fine), t .each); are = a })
+    keep x place r (λ ys t. let ps = piecesOf (t .pieces) in
+    let e = tailOf (t .tail) in
+    let a = append-assoc (pieceOf (g (t .first))) ps e ∙ (ap (λ (l : List Item). l ++ (ps ++ e)) (w (t .first)) ∙ ap (λ (l : List Item). x ∷ l) (t .are)) in
+    record { first = tt; fine = tt; pieces = g (t .first) ∷ t .pieces; each = (f (t .first) (t .fine), t .each); tail = t .tail; closed = t .closed; are = a })
 
 -- ---- where a record may stand
 
@@ -156,6 +167,15 @@ not-no e = absurd (true≢false (ap isUnallowed e))
 not-end : {A : Type 0} {f : Form} → M.End ≡ M.Form f → A
 not-end e = absurd (true≢false (ap isEnd e))
 
+-- a word without a tag is no record with a type
+abbrev typed : Meaning → Bool
+typed (M.Form f) = eqb (tagFields f) 2
+typed M.Unallowed = true
+typed M.End = true
+
+not-bare : {A : Type 0} {f : Form} → M.Form F.Scaler ≡ M.Form f → eqb (tagFields f) 2 ≡ true → A
+not-bare e d = absurd (true≢false (sym d ∙ sym (ap typed e)))
+
 -- what the record's own word says: of a defining word by its type, of a continuation
 type-of : (s : Scan) (x : Item) (type : ℕ) → Stands s x → (isOf (formOf x) (wordOf x) ≡ true → isDefining type (wordOf x) ≡ true)
     → meaningIn (otherIn s) (allowedIn s) type ≡ M.Form (formOf x)
@@ -164,12 +184,17 @@ type-of s x type h d = sym (meaning-type s (wordOf x) type (d (says x (h .widths
 more-of : (s : Scan) (x : Item) → Stands s x → (isOf (formOf x) (wordOf x) ≡ true → isContinuation (wordOf x) ≡ true) → moreIn s ≡ M.Form (formOf x)
 more-of s x h d = sym (meaning-more s (wordOf x) (d (says x (h .widths) .tag))) ∙ h .form
 
+-- of a scaler word whatever its bits: so a continuation would be one
+bare-of : (s : Scan) (r : ScalerWord) → Stands s (I.Scaler r) → moreIn s ≡ M.Form F.Scaler
+unfolding isContinuation fieldAt
+bare-of s r h = sym (meaning-more s 0 refl) ∙ scaler-any s 0 (wordOf (I.Scaler r)) (h .form)
+
 -- a record with a type, by the lists of types that are allowed in some stage
-at : (s : Scan) (xs : List Item) (type : ℕ) {f : Form} → meaningIn (otherIn s) (allowedIn s) type ≡ M.Form f → (meaningIn M.Unallowed opening type ≡ M.Form f → s .place ≡ 0 → Made xs)
+at : (s : Scan) (xs : List Item) (type : ℕ) {f : Form} → meaningIn (otherIn s) (allowedIn s) type ≡ M.Form f → eqb (tagFields f) 2 ≡ true → (meaningIn M.Unallowed opening type ≡ M.Form f → s .place ≡ 0 → Made xs)
     → (meaningIn M.Unallowed edges type ≡ M.Form f → Led s Nothing xs) → (meaningIn M.Unallowed (F.Clock ∷ inner) type ≡ M.Form f → Led s Clocked xs)
     → (meaningIn M.Unallowed inner type ≡ M.Form f → Led s Pieces xs) → ((n : ℕ) → s .stage ≡ P.Tail n → eqb n 0 ≡ false → meaningIn M.End (F.Filler ∷ []) type ≡ M.Form f → Fillers n (s .slot) xs)
     → Here s xs
-at s xs type {f} e start edge opened inside tail = go (s .stage) refl e
+at s xs type {f} e d start edge opened inside tail = go (s .stage) refl e
   where
     go : (p : Stage) → s .stage ≡ p → meaningIn (otherBy p) (allowedBy p) type ≡ M.Form f → Shape p s xs
     go P.Start m e = start e
@@ -189,20 +214,26 @@ at s xs type {f} e start edge opened inside tail = go (s .stage) refl e
         by : (b : Bool) → eqb n 0 ≡ b → meaningIn M.End (cond b [] (F.Filler ∷ [])) type ≡ M.Form f → Fillers n (s .slot) xs
         by true z e = not-end e
         by false z e = tail n m z e
+    go (P.Scalers n) m e = by (eqb n 0) refl e
+      where
+        by : (b : Bool) → eqb n 0 ≡ b → meaningIn (cond b M.Unallowed (M.Form F.Scaler)) (cond b edges []) type ≡ M.Form f → Led s (Scaled n) xs
+        by true z e = turn (edge e) (λ ys q. ([], sym (eqb-true n 0 z), q))
+        by false z e = not-bare e d
 
 -- a record of an event, or at its edge
 item : (s : Scan) (xs : List Item) (type : ℕ) {f : Form} → meaningIn M.Unallowed opening type ≡ M.Unallowed → meaningIn M.End (F.Filler ∷ []) type ≡ M.End
-    → meaningIn (otherIn s) (allowedIn s) type ≡ M.Form f → (meaningIn M.Unallowed edges type ≡ M.Form f → Led s Nothing xs) → Led s Pieces xs → Here s xs
-item s xs type i j e a b =
-    at s xs type e (λ q. not-no (sym i ∙ q)) a (λ q. turn b (λ ys t. join [] t no-clock tt refl)) (λ q. b) (λ n m z q. not-end (sym j ∙ q))
+    → meaningIn (otherIn s) (allowedIn s) type ≡ M.Form f → eqb (tagFields f) 2 ≡ true → (meaningIn M.Unallowed edges type ≡ M.Form f → Led s Nothing xs) → Led s Pieces xs → Here s xs
+item s xs type i j e d a b =
+    at s xs type e d (λ q. not-no (sym i ∙ q)) a (λ q. turn b (λ ys t. join [] t no-clock tt refl)) (λ q. b) (λ n m z q. not-end (sym j ∙ q))
 
 edge : {k left place : ℕ} {xs : List Item} → Rest Nothing k left place xs → Rest Pieces k left place xs
-edge a = turn a (λ ys n. record { first = tt; fine = tt; pieces = []; each = tt; are = n })
+edge a = turn a (λ ys n. record { first = tt; fine = tt; pieces = []; each = tt; tail = no-scalers; closed = tt; are = n })
 
--- a record with none, by what a continuation is in each stage
+-- a record with none, by what a continuation is in each stage; a scaler word is what a continuation is there
 next : (S : Stage → Type 0) (p : Stage) {f : Form} → moreBy p ≡ M.Form f → (F.Parameters ≡ f → S P.Head) → ((d : ℕ) → F.ClockHigh ≡ f → S (P.Timed d))
-    → ((n : ℕ) (b : Bool) → F.Pair ≡ f → S (P.Window n b)) → ((n : ℕ) (some : Bool) → F.Pair ≡ f → eqb n 0 ≡ false → S (P.Raw n some)) → S p
-next S p {f} e head timed windowed rawed = go p e
+    → ((n : ℕ) (b : Bool) → F.Pair ≡ f → S (P.Window n b)) → ((n : ℕ) (some : Bool) → F.Pair ≡ f → eqb n 0 ≡ false → S (P.Raw n some))
+    → ((n : ℕ) → F.Scaler ≡ f → eqb n 0 ≡ false → S (P.Scalers n)) → S p
+next S p {f} e head timed windowed rawed scaled = go p e
   where
     same : {g : Form} → M.Form g ≡ M.Form f → g ≡ f
     same e = cc
@@ -221,6 +252,11 @@ next S p {f} e head timed windowed rawed = go p e
         by true z e = not-no e
         by false z e = rawed n some (same e) z
     go (P.Tail n) e = not-end e
+    go (P.Scalers n) e = by (eqb n 0) refl e
+      where
+        by : (b : Bool) → eqb n 0 ≡ b → cond b M.Unallowed (M.Form F.Scaler) ≡ M.Form f → S (P.Scalers n)
+        by true z e = not-no e
+        by false z e = scaled n (same e) z
 
 -- ---- pairs
 
@@ -279,8 +315,8 @@ event-first : (s : Scan) (r : EventHeader) (xs : List Item) → Stands s (I.Even
 event-first s r xs h q =
     let t = q .lead in
     let e = q .ending in
-    let v : EventTree = record { header = r; clock = t .first; pieces = t .pieces } in
-    let k : EventOk (s .slot) v = record { slot = alike (r .slot) (s .slot) (h .slot); clock = t .fine; pieces = t .each } in
+    let v : EventTree = record { header = r; clock = t .first; pieces = t .pieces; tail = t .tail } in
+    let k : EventOk (s .slot) v = record { slot = alike (r .slot) (s .slot) (h .slot); clock = t .fine; pieces = t .each; tail = t .closed } in
     let a = ap (λ (l : List Item). I.Event r ∷ (l ++ eventsOf (e .events))) (t .are) in
     record { front = []; lead = refl; ending = more (I.Event r) (s .left) (s .place) [] (v ∷ e .events) e (omega (arith, e .stated, eqb-false (s .left) 0 (h .count))) (k, e .each) a }
 
@@ -312,44 +348,51 @@ differ e = absurd (omega arith)
 
 one-more : (s : Scan) (x : Item) (xs : List Item) → Stands s x → Here (after s x) xs → Here s (x ∷ xs)
 unfolding after
-one-more s (I.Block r) xs h q = at s _ 0 (type-of s _ 0 h (λ t. t)) (λ e. block-first s r xs h q) not-no not-no not-no (λ n m z. not-end)
+one-more s (I.Block r) xs h q = at s _ 0 (type-of s _ 0 h (λ t. t)) refl (λ e. block-first s r xs h q) not-no not-no not-no (λ n m z. not-end)
 one-more s (I.Parameters r) xs h q =
     next (λ p. Shape p s (I.Parameters r ∷ xs)) (s .stage) (more-of s _ h (λ t. t)) (λ e. keep (I.Parameters r) (s .place) q (λ ys n. (setup r, ap (λ (l : List Item). I.Parameters r ∷ l) n)))
-    (λ d e. differ (cc)) (λ n b e. differ (cc)) (λ n some e z. differ (cc))
-one-more s (I.Trailer r) xs h q = item s _ 1 refl refl (type-of s _ 1 h (λ t. t)) (λ e. trailer-first s r xs h q) (edge (trailer-first s r xs h q))
-one-more s (I.Event r) xs h q = item s _ 2 refl refl (type-of s _ 2 h (λ t. t)) (λ e. event-first s r xs h q) (edge (event-first s r xs h q))
+    (λ d e. differ (cc)) (λ n b e. differ (cc)) (λ n some e z. differ (cc)) (λ n e z. differ (cc))
+one-more s (I.Trailer r) xs h q = item s _ 1 refl refl (type-of s _ 1 h (λ t. t)) refl (λ e. trailer-first s r xs h q) (edge (trailer-first s r xs h q))
+one-more s (I.Event r) xs h q = item s _ 2 refl refl (type-of s _ 2 h (λ t. t)) refl (λ e. event-first s r xs h q) (edge (event-first s r xs h q))
 one-more s (I.Clock r) xs h q =
-    at s _ 3 (type-of s _ 3 h (λ t. t)) not-no not-no (λ e. keep (I.Clock r) (s .place) q (λ ys t. t r refl)) not-no (λ n m z. not-end)
+    at s _ 3 (type-of s _ 3 h (λ t. t)) refl not-no not-no (λ e. keep (I.Clock r) (s .place) q (λ ys t. t r refl)) not-no (λ n m z. not-end)
 one-more s (I.ClockHigh r) xs h q =
     next (λ p. timeBy p (r .high) ≡ false → Shape p s (I.ClockHigh r ∷ xs)) (s .stage) (more-of s _ h (λ t. t)) (λ e. differ (cc))
     (λ d e f. keep (I.ClockHigh r) (s .place) q (λ ys t c m. join (I.Clock c ∷ I.ClockHigh r ∷ []) t (clock48 c r) (alike (r .high % 8) d f ∙ sym m) refl))
-    (λ n b e. differ (cc)) (λ n some e z. differ (cc)) (h .fields)
+    (λ n b e. differ (cc)) (λ n some e z. differ (cc)) (λ n e z. differ (cc)) (h .fields)
 one-more s (I.Window r) xs h q =
     let f = width-of r (h .fields) in
     let l = f .0 in
-    item s _ 4 refl refl (type-of s _ 4 h (λ t. t)) not-no
+    item s _ 4 refl refl (type-of s _ 4 h (λ t. t)) refl not-no
     (piece (I.Window r) (s .place) (turn q (λ ys t. t (r .width) l refl refl)) (window r) (λ ps. refl) (λ ps o. (l, (f .1, o))))
-one-more s (I.Raw r) xs h q = item s _ 6 refl refl (type-of s _ 6 h (λ t. t)) not-no (piece (I.Raw r) (s .place) q (raw r) (λ ps. refl) (λ ps o. (o .0, o .2 (o .1 refl))))
+one-more s (I.Raw r) xs h q = item s _ 6 refl refl (type-of s _ 6 h (λ t. t)) refl not-no (piece (I.Raw r) (s .place) q (raw r) (λ ps. refl) (λ ps o. (o .0, o .2 (o .1 refl))))
 one-more s (I.Pair r) xs h q =
     let o = pair-is r (eqb (r .nofirst) 0) (eqb (r .nosecond) 1) (eqb (r .second) 0) (flagWrong s (r .nosecond)) refl refl refl (h .widths) (h .fields) in
     next (λ p. flagBy p (r .nosecond) ≡ false → Shape (pairedBy p (r .nosecond)) (after s (I.Pair r)) xs → Shape p s (I.Pair r ∷ xs)) (s .stage) (more-of s _ h (λ t. t))
     (λ e. differ (cc)) (λ d e. differ (cc))
     (λ n b e f. in-window n b (o .0) (alike (r .nosecond) (cond (eqb n 1 && b) 1 0) f) (leb n 1) refl)
     (λ n some e z f q. keep (I.Pair r) (s .place) q (λ ys t. pair-first r t (λ ps. raw-more n some r ps (omega (arith, eqb-false n 0 z)) (o .0))))
-    (o .1) q
+    (λ n e z. differ (cc)) (o .1) q
   where
     in-window : (n : ℕ) (b : Bool) → LastPair r → r .nosecond ≡ cond (eqb n 1 && b) 1 0 → (d : Bool) → leb n 1 ≡ d
         → Shape (cond d P.Items (P.Window (n - 1) b)) (after s (I.Pair r)) xs → Led s (Windowed n b) (I.Pair r ∷ xs)
     in-window n b l f true z q = keep (I.Pair r) (s .place) q (λ ys. window-last n b r ys l f (leb-true n 1 z))
     in-window n b l f false z q = keep (I.Pair r) (s .place) q (λ ys. window-more n b r ys l f (leb-false n 1 z))
-one-more s (I.Integral r) xs h q = item s _ 7 refl refl (type-of s _ 7 h (λ t. t)) not-no (piece (I.Integral r) (s .place) q (λ u. integral r) (λ u. refl) (λ u o. tt))
-one-more s (I.Time r) xs h q = item s _ 8 refl refl (type-of s _ 8 h (λ t. t)) not-no (piece (I.Time r) (s .place) q (λ u. time r) (λ u. refl) (λ u o. tt))
-one-more s (I.Pedestal r) xs h q = item s _ 10 refl refl (type-of s _ 10 h (λ t. t)) not-no (piece (I.Pedestal r) (s .place) q (λ u. pedestal r) (λ u. refl) (λ u o. tt))
-one-more s (I.Empty r) xs h q = at s _ 14 (type-of s _ 14 h (λ t. t)) (λ e z. (empty r, tt, ap (λ (l : List Item). I.Empty r ∷ l) (none-left (q .fillers) xs (q .few) (q .are)))) not-no not-no not-no (λ n m z. not-end)
+one-more s (I.Integral r) xs h q = item s _ 7 refl refl (type-of s _ 7 h (λ t. t)) refl not-no (piece (I.Integral r) (s .place) q (λ u. integral r) (λ u. refl) (λ u o. tt))
+one-more s (I.Time r) xs h q = item s _ 8 refl refl (type-of s _ 8 h (λ t. t)) refl not-no (piece (I.Time r) (s .place) q (λ u. time r) (λ u. refl) (λ u o. tt))
+one-more s (I.Pedestal r) xs h q = item s _ 10 refl refl (type-of s _ 10 h (λ t. t)) refl not-no (piece (I.Pedestal r) (s .place) q (λ u. pedestal r) (λ u. refl) (λ u o. tt))
+one-more s (I.Empty r) xs h q = at s _ 14 (type-of s _ 14 h (λ t. t)) refl (λ e z. (empty r, tt, ap (λ (l : List Item). I.Empty r ∷ l) (none-left (q .fillers) xs (q .few) (q .are)))) not-no not-no not-no (λ n m z. not-end)
 one-more s (I.Filler r) xs h q =
-    at s _ 15 (type-of s _ 15 h (λ t. t)) not-no not-no not-no not-no
+    at s _ 15 (type-of s _ 15 h (λ t. t)) refl not-no not-no not-no not-no
     (λ n m z e. let t : Fillers (n - 1) (s .slot) xs = subst (λ (p : Stage). Shape (filledBy p) (after s (I.Filler r)) xs) m q in
     record { fillers = r ∷ t .fillers; few = omega (arith, t .few, eqb-false n 0 z); same = (alike (r .slot) (s .slot) (h .slot), t .same); are = ap (λ (l : List Item). I.Filler r ∷ l) (t .are) })
+one-more s (I.Scalers r) xs h q =
+    item s _ 12 refl refl (type-of s _ 12 h (λ t. t)) refl not-no
+    (keep (I.Scalers r) (s .place) q (λ ys t. record { first = tt; fine = tt; pieces = []; each = tt; tail = scalers r (t .0); closed = t .1; are = ap (λ (l : List Item). I.Scalers r ∷ l) (t .2) }))
+one-more s (I.Scaler r) xs h q =
+    next (λ p. Shape (scaledBy p) (after s (I.Scaler r)) xs → Shape p s (I.Scaler r ∷ xs)) (s .stage) (bare-of s r h) (λ e. differ (cc)) (λ d e. differ (cc)) (λ n b e. differ (cc))
+    (λ n some e z. differ (cc))
+    (λ n e z q. keep (I.Scaler r) (s .place) q (λ ys t. (r ∷ t .0, omega (arith, t .1, eqb-false n 0 z), ap (λ (l : List Item). I.Scaler r ∷ l) (t .2)))) q
 
 -- ---- all records
 
@@ -363,6 +406,7 @@ no-more P.Items s h = absurd (true≢false h)
 no-more (P.Window n b) s h = absurd (true≢false h)
 no-more (P.Raw n some) s h = absurd (true≢false h)
 no-more (P.Tail n) s h = record { fillers = []; few = omega arith; same = tt; are = refl }
+no-more (P.Scalers n) s h = absurd (true≢false h)
 
 shape-of : (s : Scan) (xs : List Item) → Follow s xs → Here s xs
 shape-of s [] h = no-more (s .stage) s h

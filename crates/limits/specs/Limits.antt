@@ -1,4 +1,4 @@
--- The largest counts of document 01: one is given, the others follow. Assumes nothing.
+-- The largest counts of document 01, and of 02 with scalers: one is given, the others follow. Assumes nothing.
 use Prim.Native.Nat.{ℕ, _+_, _*_, _/_}
 
 -- "NW, samples per window, 1 to 500"
@@ -29,11 +29,19 @@ mostChannel = 3 * mostRaw
 abbrev pub channels : ℕ
 channels = 16
 
--- "at most 2 + 12,051 x events closed": an event is its header, two time words and sixteen channels
+-- 02: "Latch copies eighteen counts at once": those of the channels, the timer, the triggers
+abbrev pub latchedCounts : ℕ
+latchedCounts = channels + 2
+
+-- 02: "On request a closed event ends with type 12 .. and the latched words"
+unfoldable pub tailWords : ℕ
+tailWords = 1 + latchedCounts
+
+-- 02: "An event is then at most 12,070 words in the state's bound.": its header, two time words, sixteen channels, its scalers
 unfoldable pub mostEvent : ℕ
-mostEvent = 3 + channels * mostChannel
+mostEvent = 3 + channels * mostChannel + tailWords
 
 -- a proof that computes opens this file by one name
 unfoldable pub allOpen : Unit {0}
-unfolding mostSamples pairsOf mostPairs mostRaw mostPulse mostChannel mostEvent
+unfolding mostSamples pairsOf mostPairs mostRaw mostPulse mostChannel tailWords mostEvent
 allOpen = tt

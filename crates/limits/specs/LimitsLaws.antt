@@ -2,7 +2,7 @@
 use Prim.Native.Nat.{ℕ, _+_, _*_, _/_, _≤_}
 use mathlib.Core.Path.{_≡_, refl}
 use native.Mathlib.Omega.{arith}
-use Rattle.limits.specs.Limits.{mostSamples, pairsOf, mostPairs, mostRaw, mostPulse, mostChannel, channels, mostEvent}
+use Rattle.limits.specs.Limits.{mostSamples, pairsOf, mostPairs, mostRaw, mostPulse, mostChannel, channels, tailWords, mostEvent}
 
 -- ---- the numbers, as the code has them
 
@@ -26,9 +26,13 @@ pub most-channel : mostChannel ≡ 753
 unfolding mostChannel
 most-channel = rw most-raw
 
-pub most-event : mostEvent ≡ 12051
+pub tail-words : tailWords ≡ 19
+unfolding tailWords
+tail-words = refl
+
+pub most-event : mostEvent ≡ 12070
 unfolding mostEvent
-most-event = rw most-channel
+most-event = rw (most-channel, tail-words)
 
 -- ---- how they follow
 
@@ -44,7 +48,7 @@ pub channel-is : mostChannel ≡ 3 * mostRaw
 unfolding mostChannel
 channel-is = refl
 
-pub event-is : mostEvent ≡ 3 + channels * mostChannel
+pub event-is : mostEvent ≡ 3 + channels * mostChannel + tailWords
 unfolding mostEvent
 event-is = refl
 

@@ -13,5 +13,11 @@ pub const MOST_CHANNEL: usize = 3 * MOST_RAW;
 
 pub const CHANNELS: usize = 16;
 
-// An event: its header, two time words, its channels.
-pub const MOST_EVENT: usize = 3 + CHANNELS * MOST_CHANNEL;
+// The latched counts: the channels', the timer, the triggers.
+pub const LATCHED: usize = CHANNELS + 2;
+
+// An event's scalers: a word that says how many, and the latched counts.
+pub const TAIL_WORDS: usize = 1 + LATCHED;
+
+// An event: its header, two time words, its channels, its scalers.
+pub const MOST_EVENT: usize = 3 + CHANNELS * MOST_CHANNEL + TAIL_WORDS;

@@ -1,7 +1,7 @@
 -- The line of each record of the format. The only place that knows a line's cells. Assumes nothing.
 use Prim.Native.Nat.{ℕ, _+_, _*_, _^_}
 use mathlib.Core.Bool.{cond}
-use mathlib.Core.List.{List, [], _∷_}
+use mathlib.Core.List.{List, [], _∷_, map}
 use lib.Dec.{eqb}
 use Rattle.framing.specs.declared.block_header.BlockHeader.{BlockHeader}
 use Rattle.framing.specs.declared.parameters.Parameters.{Parameters}
@@ -66,6 +66,9 @@ emptyName = 101 ∷ 109 ∷ 112 ∷ 116 ∷ 121 ∷ []
 abbrev pub refusedName : List ℕ
 refusedName = 114 ∷ 101 ∷ 102 ∷ 117 ∷ 115 ∷ 101 ∷ 100 ∷ []
 
+abbrev pub scalersName : List ℕ
+scalersName = 115 ∷ 99 ∷ 97 ∷ 108 ∷ 101 ∷ 114 ∷ 115 ∷ []
+
 -- ---- the line of each record
 
 -- "block: slot, number, events"
@@ -116,6 +119,10 @@ endLine r = lineOf endName (Number (r .words) ∷ [])
 -- "`empty` slot"
 abbrev pub emptyLine : ModuleEmpty → Line
 emptyLine r = lineOf emptyName (Number (r .slot) ∷ [])
+
+-- 02: "The lister prints `scalers` and the words in order."
+abbrev pub scalersLine : List ℕ → Line
+scalersLine words = lineOf scalersName (map (λ n. Number n) words)
 
 -- "`refused` number, place"
 abbrev pub refusedLine : ℕ → ℕ → Line

@@ -1,34 +1,25 @@
 -- Blocks one after another. Assumes nothing.
 use Prim.Native.Nat.{ℕ, zero, suc, _+_, _-_, _*_, _≤_, _<_}
 use mathlib.Core.Path.{_≡_, refl, sym, ap, _∙_}
-use mathlib.Core.Bool.{Bool, true, false, cond, false≢true}
-use mathlib.Core.List.{List, [], _∷_, _++_, append-assoc, append-nil}
+use mathlib.Core.Bool.{Bool, true, false, cond}
+use mathlib.Core.List.{List, [], _∷_, _++_, append-nil}
 use native.Mathlib.Omega.{arith}
-use native.Mathlib.Nat.{zero-add, add-zero}
-use lib.Dec.{eqb}
-use lib.ListN.{length, take, drop, getD, length-drop}
-use lib.Seq.{drop-drop, take-all}
+use lib.ListN.{length, take, drop, length-drop}
+use lib.Seq.{drop-drop}
 use Rattle.fields.specs.Bytes.{wordsOfBytes}
 use Rattle.fields.specs.BytesLaws.{words-none, words-some, words-drop, words-le}
-use Rattle.items.specs.declared.Item.{Item}
-use Rattle.scan.specs.declared.Scan.{Scan}
-use Rattle.reader.specs.declared.Step.{Step}
-use Rattle.reader.specs.declared.Step.the-variants as S
-use Rattle.reader.specs.declared.Judged.{Judged}
-use Rattle.reader.specs.declared.Judged.the-variants as J
 use Rattle.scan.specs.After.{startOf}
-use Rattle.reader.specs.Reader.{stepAt, withItem, judgeAt, Out, endNumber, outOf, Reading, then, just, onJudged, readFrom}
+use Rattle.reader.specs.Reader.{Reading, readFrom}
 use Rattle.reader.specs.ReaderLaws.{ended}
-use Rattle.reader.specs.RunLaws.{items-le, end-by}
+use Rattle.reader.specs.RunLaws.{items-le}
 use Rattle.written.specs.Page.{Page, put}
 use Rattle.written.specs.PageLaws.{put-append}
-use Rattle.written.specs.Line.{Line, lineText, textOf}
-use Rattle.written.specs.LineLaws.{text-append, say-one, say-both}
+use Rattle.written.specs.Line.{Line, textOf}
+use Rattle.written.specs.LineLaws.{text-append}
 use Rattle.blocklines.specs.declared.Block.{Block}
-use Rattle.lines.specs.Lines.{refusedLine, fillLines}
-use Rattle.entries.specs.Entries.{recordLines, fillerIn}
 use Rattle.blocklines.specs.BlockLines.{isWhole, blockLines, ReadingSays}
-use Rattle.blocklines.specs.BlockLaws.{tail-is, whole-some}
+use Rattle.entries.specs.AheadLaws.{tail-is}
+use Rattle.blocklines.specs.BlockLaws.{whole-some}
 use Rattle.listing.specs.Listing.{linesFrom}
 
 skipped : (n : ℕ) (words : List ℕ) → linesFrom n words ≡ linesFrom 0 (drop n words)

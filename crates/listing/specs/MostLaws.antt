@@ -1,8 +1,8 @@
 -- How long a text can be: at most 23 bytes a word, and one refusal's line. Assumes nothing.
-use Prim.Native.Nat.{ℕ, zero, suc, _+_, _-_, _*_, _/_, _%_, _^_, _≤_, _<_}
+use Prim.Native.Nat.{ℕ, zero, suc, _+_, _-_, _*_, _/_, _^_, _≤_, _<_}
 use mathlib.Core.Path.{_≡_, refl, sym, ap, _∙_}
 use mathlib.Core.Bool.{Bool, true, false, cond, not, _||_}
-use mathlib.Core.List.{List, [], _∷_, _++_}
+use mathlib.Core.List.{List, [], _∷_, _++_, map}
 use native.Mathlib.Omega.{arith}
 use native.Mathlib.Nat.{lt-of-lt-of-le}
 use borrow.Author.Tests.{ltb-false, le-leb, ne-eqb}
@@ -10,7 +10,7 @@ use lib.Dec.{T, leb, eqb, ltb, leb→le, lit<, lit≤}
 use lib.ListN.{length}
 use Rattle.ground.specs.Tests.{firstOf}
 use Rattle.fields.specs.Word.{fieldAt}
-use Rattle.framing.specs.Words.{blockHeaderOf, parametersOf, trailerOf, eventHeaderOf, triggerTimeOf, triggerTimeHighOf, emptyOf, fillerOf}
+use Rattle.framing.specs.Words.{blockHeaderOf, parametersOf, trailerOf, eventHeaderOf, triggerTimeOf, triggerTimeHighOf, scalersOf, scalerOf, emptyOf, fillerOf}
 use Rattle.raw.specs.Words.{windowOf, pulseRawOf, pairOf}
 use Rattle.measures.specs.Words.{integralOf, timeOf, pedestalOf}
 use Rattle.framing.specs.declared.trigger_time.TriggerTime.{TriggerTime}
@@ -38,8 +38,8 @@ use Rattle.lines.specs.declared.Second.{Second}
 use Rattle.lines.specs.declared.Second.the-variants as N
 use Rattle.listing.specs.declared.Listed.{Listed}
 use Rattle.listing.specs.declared.Listed.the-variants as L
-use Rattle.lines.specs.Lines.{blockName, setupName, eventName, clockName, clock27Name, windowName, pulseName, pairName, integralName, timeName, pedName, endName, fillName, emptyName, refusedName, refusedLine, fillLines, clockLine}
-use Rattle.entries.specs.Entries.{highIn, secondOf, recordLines, fillerIn}
+use Rattle.lines.specs.Lines.{blockName, setupName, eventName, clockName, clock27Name, windowName, pulseName, pairName, integralName, timeName, pedName, endName, fillName, emptyName, refusedName, scalersName, refusedLine, fillLines, clockLine, scalersLine}
+use Rattle.entries.specs.Entries.{highIn, secondOf, scalersIn, recordLines, fillerIn}
 use Rattle.blocklines.specs.BlockLines.{itemLines, fillersIn, isWhole, outLines, blockLines}
 use Rattle.listing.specs.Listing.{linesFrom, cutWrong, lengthWrong, linesUnless, listingOf, longListingOf}
 use Rattle.listing.specs.Says.{listedNumber, counted, ListSays}
@@ -56,12 +56,30 @@ abbrev HighSmall : Second → Type 0
 HighSmall N.Nothing = Unit
 HighSmall (N.High high) = high < 2 ^ 24
 
-record Small (x : Item) : Type 0 where
-  line : (behind : List Item) → HighSmall (secondOf behind) → size (recordLines x behind) + 23 * fillerIn x ≤ 23
-  high : HighSmall (highIn x)
+-- a scaler word has 32 bits, and so ten digits
+abbrev tens : List ℕ → List ℕ
+tens [] = []
+tens (n ∷ ns) = 9 ∷ tens ns
 
-one : (name : List ℕ) (cells : List Cell) (ds : List ℕ) → Below cells ds → length name + (most ds + 1) ≤ 23 → size (lineOf name cells ∷ []) + 23 * 0 ≤ 23
-one name cells ds h k = omega (arith, size-one name cells ds 23 h k)
+abbrev WordsSmall : List ℕ → Type 0
+WordsSmall ns = Below (map (λ n. Number n) ns) (tens ns)
+
+-- the cells of the scaler words behind a header are held for it by those words: 11 bytes each
+record Small (x : Item) : Type 0 where
+  line : (behind : List Item) → HighSmall (secondOf behind) → WordsSmall (scalersIn behind)
+      → size (recordLines x behind) + 23 * fillerIn x + 11 * length (scalersIn (x ∷ behind)) ≤ 23 + 11 * length (scalersIn behind)
+  high : HighSmall (highIn x)
+  words : (behind : List Item) → WordsSmall (scalersIn behind) → WordsSmall (scalersIn (x ∷ behind))
+
+one : (n : ℕ) (name : List ℕ) (cells : List Cell) (ds : List ℕ) → Below cells ds → length name + (most ds + 1) ≤ 23 → size (lineOf name cells ∷ []) + 23 * 0 + 11 * 0 ≤ 23 + 11 * n
+one n name cells ds h k = omega (arith, size-one name cells ds 23 h k)
+
+most-tens : (ns : List ℕ) → most (tens ns) ≡ 11 * length ns
+most-tens [] = refl
+most-tens (n ∷ ns) = omega (arith, most-tens ns)
+
+scalers-small : (ns : List ℕ) → WordsSmall ns → size (scalersLine ns ∷ []) ≤ 8 + 11 * length ns
+scalers-small ns h = size-one scalersName _ (tens ns) (8 + 11 * length ns) h (omega (arith, most-tens ns))
 
 cell-below : (b : Bool) (n d : ℕ) (cells : List Cell) (ds : List ℕ) → n < 10 ^ suc d → Below cells ds → Below (cellOf b n ∷ cells) (d ∷ ds)
 cell-below true n d cells ds h r = r
@@ -70,26 +88,28 @@ cell-below false n d cells ds h r = (h, r)
 pair-below : (a b : Bool) (m n : ℕ) → m < 10 ^ 4 → n < 10 ^ 4 → Below (cellOf a m ∷ cellOf b n ∷ []) (3 ∷ 3 ∷ [])
 pair-below a b m n h k = cell-below a m 3 (cellOf b n ∷ []) (3 ∷ []) h (cell-below b n 3 [] [] k tt)
 
-clock-small : (r : TriggerTime) (second : Second) → r .middle < 10 → r .low < 2 ^ 24 → HighSmall second → size (clockLine r second ∷ []) + 23 * 0 ≤ 23
-clock-small r N.Nothing h k l = one clock27Name _ (8 ∷ []) (omega arith, tt) (lit≤ tt)
-clock-small r (N.High high) h k l = one clockName _ (14 ∷ []) (omega arith, tt) (lit≤ tt)
+clock-small : (n : ℕ) (r : TriggerTime) (second : Second) → r .middle < 10 → r .low < 2 ^ 24 → HighSmall second → size (clockLine r second ∷ []) + 23 * 0 + 11 * 0 ≤ 23 + 11 * n
+clock-small n r N.Nothing h k l = one n clock27Name _ (8 ∷ []) (omega arith, tt) (lit≤ tt)
+clock-small n r (N.High high) h k l = one n clockName _ (14 ∷ []) (omega arith, tt) (lit≤ tt)
 
 small : (f : Form) (word : ℕ) → Small (itemFrom f word)
-unfolding blockHeaderOf parametersOf trailerOf eventHeaderOf triggerTimeOf triggerTimeHighOf emptyOf fillerOf windowOf pulseRawOf pairOf integralOf timeOf pedestalOf
-small F.Block w = record { line = λ b h. one blockName _ (1 ∷ 3 ∷ 2 ∷ []) (field-digits w 22 5 2 tt, (field-digits w 8 10 4 tt, (field-digits w 0 8 3 tt, tt))) (lit≤ tt); high = tt }
-small F.Parameters w = record { line = λ b h. one setupName _ (3 ∷ 2 ∷ 2 ∷ []) (field-digits w 18 11 4 tt, (field-digits w 9 9 3 tt, (field-digits w 0 9 3 tt, tt))) (lit≤ tt); high = tt }
-small F.Trailer w = record { line = λ b h. one endName _ (6 ∷ []) (field-digits w 0 22 7 tt, tt) (lit≤ tt); high = tt }
-small F.Event w = record { line = λ b h. one eventName _ (6 ∷ []) (field-digits w 0 22 7 tt, tt) (lit≤ tt); high = tt }
-small F.Clock w = record { line = λ b h. clock-small _ (secondOf b) (field-digits w 24 3 1 tt) (field-lt w 0 24) h; high = tt }
-small F.ClockHigh w = record { line = λ b h. omega (arith, size-none); high = field-lt w 0 24 }
-small F.Window w = record { line = λ b h. one windowName _ (1 ∷ 3 ∷ []) (field-digits w 23 4 2 tt, (field-digits w 0 12 4 tt, tt)) (lit≤ tt); high = tt }
-small F.Raw w = record { line = λ b h. one pulseName _ (1 ∷ 0 ∷ 3 ∷ []) (field-digits w 23 4 2 tt, (field-digits w 21 2 1 tt, (field-digits w 0 10 4 tt, tt))) (lit≤ tt); high = tt }
-small F.Pair w = record { line = λ b h. one pairName _ (3 ∷ 3 ∷ []) (pair-below (eqb (fieldAt w 29 1) 1) (eqb (fieldAt w 13 1) 1) (fieldAt w 16 13) (fieldAt w 0 13) (field-digits w 16 13 4 tt) (field-digits w 0 13 4 tt)) (lit≤ tt); high = tt }
-small F.Integral w = record { line = λ b h. one integralName _ (1 ∷ 0 ∷ 0 ∷ 5 ∷ []) (field-digits w 23 4 2 tt, (field-digits w 21 2 1 tt, (field-digits w 19 2 1 tt, (field-digits w 0 19 6 tt, tt)))) (lit≤ tt); high = tt }
-small F.Time w = record { line = λ b h. one timeName _ (1 ∷ 0 ∷ 0 ∷ 2 ∷ 1 ∷ []) (field-digits w 23 4 2 tt, (field-digits w 21 2 1 tt, (field-digits w 19 2 1 tt, (field-digits w 6 9 3 tt, (field-digits w 0 6 2 tt, tt))))) (lit≤ tt); high = tt }
-small F.Pedestal w = record { line = λ b h. one pedName _ (1 ∷ 0 ∷ 2 ∷ 3 ∷ []) (field-digits w 23 4 2 tt, (field-digits w 21 2 1 tt, (field-digits w 12 9 3 tt, (field-digits w 0 12 4 tt, tt)))) (lit≤ tt); high = tt }
-small F.Empty w = record { line = λ b h. one emptyName _ (1 ∷ []) (field-digits w 22 5 2 tt, tt) (lit≤ tt); high = tt }
-small F.Filler w = record { line = λ b h. omega (arith, size-none); high = tt }
+unfolding blockHeaderOf parametersOf trailerOf eventHeaderOf triggerTimeOf triggerTimeHighOf scalersOf scalerOf emptyOf fillerOf windowOf pulseRawOf pairOf integralOf timeOf pedestalOf
+small F.Block w = record { line = λ b h k. one _ blockName _ (1 ∷ 3 ∷ 2 ∷ []) (field-digits w 22 5 2 tt, (field-digits w 8 10 4 tt, (field-digits w 0 8 3 tt, tt))) (lit≤ tt); high = tt; words = λ b k. tt }
+small F.Parameters w = record { line = λ b h k. one _ setupName _ (3 ∷ 2 ∷ 2 ∷ []) (field-digits w 18 11 4 tt, (field-digits w 9 9 3 tt, (field-digits w 0 9 3 tt, tt))) (lit≤ tt); high = tt; words = λ b k. tt }
+small F.Trailer w = record { line = λ b h k. one _ endName _ (6 ∷ []) (field-digits w 0 22 7 tt, tt) (lit≤ tt); high = tt; words = λ b k. tt }
+small F.Event w = record { line = λ b h k. one _ eventName _ (6 ∷ []) (field-digits w 0 22 7 tt, tt) (lit≤ tt); high = tt; words = λ b k. tt }
+small F.Clock w = record { line = λ b h k. clock-small _ _ (secondOf b) (field-digits w 24 3 1 tt) (field-lt w 0 24) h; high = tt; words = λ b k. tt }
+small F.ClockHigh w = record { line = λ b h k. omega (arith, size-none); high = field-lt w 0 24; words = λ b k. tt }
+small F.Window w = record { line = λ b h k. one _ windowName _ (1 ∷ 3 ∷ []) (field-digits w 23 4 2 tt, (field-digits w 0 12 4 tt, tt)) (lit≤ tt); high = tt; words = λ b k. tt }
+small F.Raw w = record { line = λ b h k. one _ pulseName _ (1 ∷ 0 ∷ 3 ∷ []) (field-digits w 23 4 2 tt, (field-digits w 21 2 1 tt, (field-digits w 0 10 4 tt, tt))) (lit≤ tt); high = tt; words = λ b k. tt }
+small F.Pair w = record { line = λ b h k. one _ pairName _ (3 ∷ 3 ∷ []) (pair-below (eqb (fieldAt w 29 1) 1) (eqb (fieldAt w 13 1) 1) (fieldAt w 16 13) (fieldAt w 0 13) (field-digits w 16 13 4 tt) (field-digits w 0 13 4 tt)) (lit≤ tt); high = tt; words = λ b k. tt }
+small F.Integral w = record { line = λ b h k. one _ integralName _ (1 ∷ 0 ∷ 0 ∷ 5 ∷ []) (field-digits w 23 4 2 tt, (field-digits w 21 2 1 tt, (field-digits w 19 2 1 tt, (field-digits w 0 19 6 tt, tt)))) (lit≤ tt); high = tt; words = λ b k. tt }
+small F.Time w = record { line = λ b h k. one _ timeName _ (1 ∷ 0 ∷ 0 ∷ 2 ∷ 1 ∷ []) (field-digits w 23 4 2 tt, (field-digits w 21 2 1 tt, (field-digits w 19 2 1 tt, (field-digits w 6 9 3 tt, (field-digits w 0 6 2 tt, tt))))) (lit≤ tt); high = tt; words = λ b k. tt }
+small F.Pedestal w = record { line = λ b h k. one _ pedName _ (1 ∷ 0 ∷ 2 ∷ 3 ∷ []) (field-digits w 23 4 2 tt, (field-digits w 21 2 1 tt, (field-digits w 12 9 3 tt, (field-digits w 0 12 4 tt, tt)))) (lit≤ tt); high = tt; words = λ b k. tt }
+small F.Empty w = record { line = λ b h k. one _ emptyName _ (1 ∷ []) (field-digits w 22 5 2 tt, tt) (lit≤ tt); high = tt; words = λ b k. tt }
+small F.Filler w = record { line = λ b h k. omega (arith, size-none); high = tt; words = λ b k. tt }
+small F.Scalers w = record { line = λ b h k. omega (arith, scalers-small (scalersIn b) k); high = tt; words = λ b k. tt }
+small F.Scaler w = record { line = λ b h k. omega (arith, size-none); high = tt; words = λ b k. (field-digits w 0 32 10 tt, k) }
 
 -- ---- one word
 
@@ -131,8 +151,9 @@ good s word h = go (meaningAt s word)
 -- ---- one block
 
 record SmallReading (r : Reading) : Type 0 where
-  lines : size (itemLines (r .items)) + 23 * fillersIn (r .items) ≤ 23 * length (r .items)
+  lines : size (itemLines (r .items)) + 23 * fillersIn (r .items) + 11 * length (scalersIn (r .items)) ≤ 23 * length (r .items)
   second : HighSmall (secondOf (r .items))
+  words : WordsSmall (scalersIn (r .items))
   ends : size (outLines (r .out)) ≤ 22
 
 refused-le : (number place : ℕ) → number < 100 → place < 2 ^ 32 → size (refusedLine number place ∷ []) ≤ 22
@@ -140,7 +161,7 @@ refused-le number place h k = size-one refusedName _ (1 ∷ 9 ∷ []) 22 (h, (om
 
 small-none : (o : Out) → size (outLines o) ≤ 22 → SmallReading (just o)
 unfolding itemLines fillersIn
-small-none o h = record { lines = omega (arith, size-none); second = tt; ends = h }
+small-none o h = record { lines = omega (arith, size-none); second = tt; words = tt; ends = h }
 
 end-le : (s : Scan) → Near s → size (outLines (endOf s)) ≤ 22
 unfolding endOf
@@ -161,8 +182,9 @@ small-reading s (word ∷ words) h = go (judgeAt s word) (good s word h) (λ t n
         let rest = readFrom t words in
         let i : SmallReading rest = r t (g .1) in
         record {
-          lines = omega (arith, size-both (recordLines x (rest .items)) (itemLines (rest .items)), g .0 .line (rest .items) (i .second), i .lines);
+          lines = omega (arith, size-both (recordLines x (rest .items)) (itemLines (rest .items)), g .0 .line (rest .items) (i .second) (i .words), i .lines);
           second = g .0 .high;
+          words = g .0 .words (rest .items) (i .words);
           ends = i .ends;
         }
     go (J.Refused n p) g r = small-none (Broken n p) (refused-le n p (g .0) (g .1))

@@ -13,6 +13,12 @@ use Rattle.scan.specs.declared.Scan.{Scan}
 use Rattle.meaning.specs.declared.Meaning.{Meaning}
 use Rattle.meaning.specs.declared.Meaning.the-variants as M
 
+-- ---- among an event's scalers
+
+-- 02: "They carry no tag: the reader takes the stated count": while words of it are to come, whatever their bits
+abbrev pub scalerOr : ℕ → Meaning
+scalerOr n = cond (eqb n 0) M.Unallowed (M.Form F.Scaler)
+
 -- ---- a continuation
 
 abbrev pub moreBy : Stage → Meaning
@@ -25,6 +31,7 @@ moreBy P.Items = M.Unallowed
 moreBy (P.Window n odd) = M.Form F.Pair
 moreBy (P.Raw n some) = cond (eqb n 0) M.Unallowed (M.Form F.Pair)
 moreBy (P.Tail n) = M.End
+moreBy (P.Scalers n) = scalerOr n
 
 -- what a continuation is here
 abbrev pub moreIn : Scan → Meaning
@@ -40,11 +47,12 @@ opening = F.Block ∷ F.Empty ∷ []
 abbrev pub edges : List Form
 edges = F.Event ∷ F.Trailer ∷ []
 
--- "An event: header, optionally one or two time words, then any number of 4, 6, 7, 8, 10 items."
+-- "An event: header, optionally one or two time words, then any number of 4, 6, 7, 8, 10 items."; 02: "a closed event ends with type 12"
 abbrev pub inner : List Form
-inner = F.Window ∷ F.Raw ∷ F.Integral ∷ F.Time ∷ F.Pedestal ∷ edges
+inner = F.Window ∷ F.Raw ∷ F.Integral ∷ F.Time ∷ F.Pedestal ∷ F.Scalers ∷ edges
 
--- "One block: header, optional parameters, exactly the stated events, trailer, up to three fillers." "type 6 has 1 to 250" pairs
+-- "One block: header, optional parameters, exactly the stated events, trailer, up to three fillers." "type 6 has 1 to 250" pairs; 02: "12 for anything
+-- after the scalers but the next event header or the trailer"
 abbrev pub allowedBy : Stage → List Form
 allowedBy P.Start = opening
 allowedBy P.Head = edges
@@ -55,6 +63,7 @@ allowedBy P.Items = inner
 allowedBy (P.Window n odd) = []
 allowedBy (P.Raw n some) = cond some inner []
 allowedBy (P.Tail n) = cond (eqb n 0) [] (F.Filler ∷ [])
+allowedBy (P.Scalers n) = cond (eqb n 0) edges []
 
 -- the types that may stand here
 abbrev pub allowedIn : Scan → List Form
@@ -70,8 +79,9 @@ otherBy P.Items = M.Unallowed
 otherBy (P.Window n odd) = M.Unallowed
 otherBy (P.Raw n some) = M.Unallowed
 otherBy (P.Tail n) = M.End
+otherBy (P.Scalers n) = scalerOr n
 
--- any other word is refused, but behind the trailer the block ends "before a word that is no filler"
+-- any other word is refused, but behind the trailer the block ends "before a word that is no filler", and among the scalers it is one of theirs
 abbrev pub otherIn : Scan → Meaning
 otherIn s = otherBy (s .stage)
 
@@ -113,6 +123,7 @@ unfinishedBy P.Items = true
 unfinishedBy (P.Window n odd) = true
 unfinishedBy (P.Raw n some) = true
 unfinishedBy (P.Tail n) = false
+unfinishedBy (P.Scalers n) = true
 
 -- "no trailer was read", and no module empty
 abbrev pub unfinished : Scan → Bool

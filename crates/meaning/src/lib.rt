@@ -3,11 +3,12 @@ ghost use mathlib.Core.Path.{_≡_};
 ghost use mathlib.Core.Bool.{cond};
 ghost use mathlib.Core.List.{[], _∷_};
 ghost use lib.Dec.{eqb};
-ghost use Rattle.meaning.specs.Meaning.{moreIn, edges, inner, opening, allowedIn, otherIn, meaningIn, meaningAt, unfinished};
+ghost use Rattle.meaning.specs.Meaning.{scalerOr, moreIn, edges, inner, opening, allowedIn, otherIn, meaningIn, meaningAt, unfinished};
 use framing::block_header::BlockHeader;
 use framing::empty::ModuleEmpty;
 use framing::event_header::EventHeader;
 use framing::filler::Filler;
+use framing::scalers::ScalerHeader;
 use framing::trailer::BlockTrailer;
 use framing::trigger_time::TriggerTime;
 use items::Form;
@@ -37,6 +38,17 @@ fn raw_more(n: u32) -> Meaning
     }
 }
 
+// Among an event's scalers every word is one of them, while some are to come.
+fn scaler_or(n: u32) -> Meaning
+    ensures { λ r. ⌜ r ≡ scalerOr n ⌝ }
+{
+    if n == 0 {
+        Meaning::Unallowed
+    } else {
+        Meaning::Form(Form::Scaler)
+    }
+}
+
 // A continuation.
 fn more_meaning(scan: Scan) -> Meaning
     ensures { λ r. ⌜ r ≡ moreIn scan ⌝ }
@@ -52,6 +64,7 @@ fn more_meaning(scan: Scan) -> Meaning
         Stage::Window(_, _) => Meaning::Form(Form::Pair),
         Stage::Raw(n, _) => raw_more(n),
         Stage::Tail(_) => Meaning::End,
+        Stage::Scalers(n) => scaler_or(n),
     }
 }
 
@@ -84,6 +97,7 @@ fn inner_meaning(tag: u32) -> Meaning
         PulseIntegral::TAG => Meaning::Form(Form::Integral),
         PulseTime::TAG => Meaning::Form(Form::Time),
         PulsePedestal::TAG => Meaning::Form(Form::Pedestal),
+        ScalerHeader::TAG => Meaning::Form(Form::Scalers),
         EventHeader::TAG => Meaning::Form(Form::Event),
         BlockTrailer::TAG => Meaning::Form(Form::Trailer),
         _ => Meaning::Unallowed,
@@ -124,6 +138,17 @@ fn tail_meaning(n: u32, tag: u32) -> Meaning
     }
 }
 
+// Behind the scalers an event ends.
+fn scalers_meaning(n: u32, tag: u32) -> Meaning
+    ensures { λ r. ⌜ r ≡ meaningIn (scalerOr n) (cond (eqb n 0) edges []) tag ⌝ }
+{
+    if n == 0 {
+        edge_meaning(tag)
+    } else {
+        Meaning::Form(Form::Scaler)
+    }
+}
+
 // A defining word of that type.
 fn type_meaning(scan: Scan, tag: u32) -> Meaning
     ensures { λ r. ⌜ r ≡ meaningIn (otherIn scan) (allowedIn scan) tag ⌝ }
@@ -139,6 +164,7 @@ fn type_meaning(scan: Scan, tag: u32) -> Meaning
         Stage::Window(_, _) => Meaning::Unallowed,
         Stage::Raw(_, some) => raw_meaning(some, tag),
         Stage::Tail(n) => tail_meaning(n, tag),
+        Stage::Scalers(n) => scalers_meaning(n, tag),
     }
 }
 

@@ -4,3 +4,7 @@ pub mod NumbersLaws
 pub mod On
 pub mod OnLaws
 pub mod StoreLaws
+pub mod ScalersLaws
+pub mod MarksLaws
+pub mod CallLaws
+pub mod SizedLaws

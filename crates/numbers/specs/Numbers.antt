@@ -4,9 +4,10 @@ use mathlib.Core.Bool.{Bool, cond, _&&_}
 use mathlib.Core.List.{List, [], _∷_, _++_}
 use lib.Dec.{eqb}
 use lib.ListN.{length, getD, take, drop}
-use Rattle.places.specs.Places.{modeAt, nwAt, plAt, nsbAt, nsaAt, limitAt, slotAt, parametersAt, timesAt, multipleAt, thresholdsAt, settingsCount, phaseAt, blockAt, eventsAt, eventAt, triggerTimeAt, marksAt, closedAt, wordsAt, headCount, stateCount, isSettings, isState}
+use Rattle.places.specs.Places.{modeAt, nwAt, plAt, nsbAt, nsaAt, limitAt, slotAt, parametersAt, timesAt, multipleAt, thresholdsAt, settingsCount, phaseAt, blockAt, eventsAt, eventAt, triggerTimeAt, marksAt, closedAt, wordsAt, headCount, countsAt, timerAt, triggersAt, partAt, overAt, latchedAt, frontCount, stateCount, isSettings, isState}
 use Rattle.copies.specs.Copies.{pasted}
 use Rattle.settings.specs.declared.Settings.{Settings}
+use Rattle.scalers.specs.declared.Scalers.{Scalers}
 use Rattle.state.specs.declared.Phase.{Phase}
 use Rattle.state.specs.declared.Phase.the-variants.{Idle, Block, Event}
 use Rattle.state.specs.declared.State.{State}
@@ -43,6 +44,18 @@ table g (suc k) i = g i ∷ table g k (i + 1)
 unfoldable pub marksFrom : ℕ → List Bool
 marksFrom n = table (λ c. eqb (n / 2 ^ c % 2) 1) 16 0
 
+-- channel c was over in the last frame where bit c is set
+unfoldable pub scalersFrom : List ℕ → Scalers
+scalersFrom n =
+    record {
+      counts = take 16 (drop countsAt n);
+      timer = getD n timerAt 0;
+      triggers = getD n triggersAt 0;
+      part = getD n partAt 0;
+      over = marksFrom (getD n overAt 0);
+      latched = take 18 (drop latchedAt n);
+    }
+
 unfoldable pub stateFrom : List ℕ → State
 stateFrom n =
     record {
@@ -54,7 +67,8 @@ stateFrom n =
       posted = marksFrom (getD n marksAt 0);
       closed = getD n closedAt 0;
       words = getD n wordsAt 0;
-      settings = settingsFrom (drop headCount n);
+      scalers = scalersFrom n;
+      settings = settingsFrom (drop frontCount n);
     }
 
 -- any numbers: those that are no state stand for none, which every call refuses with 10
@@ -84,13 +98,17 @@ unfoldable pub marksNumber : List Bool → ℕ
 marksNumber [] = 0
 marksNumber (b ∷ bs) = markBit b + 2 * marksNumber bs
 
--- the numbers that a call may change
+-- the numbers that a call of writing may change
 unfoldable pub headOf : State → List ℕ
 headOf s =
     phaseNumber (s .phase) ∷ s .block ∷ s .events ∷ s .event ∷ s .time ∷ marksNumber (s .posted) ∷ s .closed ∷ s .words ∷ []
 
+-- those that a call of counting may change
+unfoldable pub scalerNumbers : Scalers → List ℕ
+scalerNumbers c = c .counts ++ (c .timer ∷ c .triggers ∷ c .part ∷ marksNumber (c .over) ∷ c .latched)
+
 unfoldable pub numbersOf : State → List ℕ
-numbersOf s = headOf s ++ settingsNumbers (s .settings)
+numbersOf s = headOf s ++ (scalerNumbers (s .scalers) ++ settingsNumbers (s .settings))
 
 -- ---- what storing leaves of the numbers n
 
@@ -98,6 +116,10 @@ numbersOf s = headOf s ++ settingsNumbers (s .settings)
 abbrev pub headStored : List ℕ → State → List ℕ
 headStored n s = pasted n 0 (headOf s)
 
+-- what is counted behind a state's head; fewer stay as they were
+abbrev pub scalersStored : List ℕ → Scalers → List ℕ
+scalersStored n c = pasted n headCount (scalerNumbers c)
+
 -- a state whole, its settings given as their numbers; where either are not as many as they should be, n stay as they were
 abbrev pub stateStored : List ℕ → State → List ℕ → List ℕ
-stateStored n s m = cond (eqb (length n) stateCount && eqb (length m) settingsCount) (headOf s ++ m) n
+stateStored n s m = cond (eqb (length n) stateCount && eqb (length m) settingsCount) (headOf s ++ (scalerNumbers (s .scalers) ++ m)) n

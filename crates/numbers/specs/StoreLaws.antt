@@ -1,25 +1,25 @@
 -- Loading and storing, part by part. Assumes nothing.
-use Prim.Native.Nat.{ℕ, _%_, _-_, _≤_, _<_}
-use mathlib.Core.Path.{_≡_, sym, ap, ap₂, _∙_}
-use mathlib.Core.Bool.{Bool, true, false, _&&_}
+use Prim.Native.Nat.{ℕ, _+_, _%_, _-_, _≤_}
+use mathlib.Core.Path.{_≡_, sym, ap, _∙_}
+use mathlib.Core.Bool.{Bool, true, false}
 use mathlib.Core.List.{List, _∷_, [], _++_}
 use native.Mathlib.Omega.{arith}
 use borrow.Author.Tests.{eq-eqb, ne-eqb}
 use lib.Dec.{eqb}
-use lib.ListN.{length, getD, take, drop, replicate, length-drop, take-append-drop}
-use lib.Seq.{take-all}
-use Rattle.ground.specs.Tests.{allLe}
+use lib.ListN.{length, getD, take, drop, length-take, length-drop}
+use lib.Seq.{take-all, drop-at}
 use Rattle.ground.specs.Splice.{splice}
 use Rattle.ground.specs.SpliceLaws.{splice-front, length-splice, row-same}
 use Rattle.copies.specs.Copies.{pasted}
 use Rattle.copies.specs.CopiesLaws.{pasted-fits}
 use Rattle.settings.specs.declared.Settings.{Settings}
+use Rattle.scalers.specs.declared.Scalers.{Scalers}
 use Rattle.state.specs.declared.Phase.{Phase}
 use Rattle.state.specs.declared.State.{State}
 use Rattle.state.specs.State.{blank}
-use Rattle.places.specs.Places.{modeAt, nwAt, plAt, nsbAt, nsaAt, limitAt, slotAt, parametersAt, timesAt, multipleAt, thresholdsAt, most32, settingsLimits, settingsCount, phaseAt, blockAt, eventsAt, eventAt, triggerTimeAt, marksAt, closedAt, wordsAt, headLimits, headCount, stateCount, heldIn, isSettings, isState}
-use Rattle.numbers.specs.Numbers.{settingsFrom, phaseFrom, marksFrom, stateFrom, settingsOrNone, stateOrNone, phaseNumber, marksNumber, headOf, headStored, stateStored}
-use Rattle.places.specs.PlacesLaws.{held-other, held-parts, held-same, settings-32, head-32, tail-part}
+use Rattle.places.specs.Places.{modeAt, nwAt, plAt, nsbAt, nsaAt, limitAt, slotAt, parametersAt, timesAt, multipleAt, thresholdsAt, settingsCount, phaseAt, blockAt, eventsAt, eventAt, triggerTimeAt, marksAt, closedAt, wordsAt, headCount, frontCount, stateCount, isSettings, isState}
+use Rattle.numbers.specs.Numbers.{settingsFrom, phaseFrom, marksFrom, scalersFrom, stateFrom, settingsOrNone, stateOrNone, phaseNumber, marksNumber, headOf, scalerNumbers, headStored, scalersStored, stateStored}
+use Rattle.places.specs.PlacesLaws.{settings-32, front-32, tail-part}
 
 -- ---- loading numbers that are held
 
@@ -41,8 +41,9 @@ settings-loaded n e ts m w p b a l s x i u =
     let f = settings-32 n e in
     rw (ts, m, w, p, b, a, l, s, x, i, u, f .mode, f .pl, f .slot, f .times, f .multiple)
 
-pub state-loaded : (n : List ℕ) → isState n ≡ true → {first block events event time marks closed words : ℕ} {phase : Phase} {posted : List Bool} {settings : Settings}
-    → settings ≡ settingsFrom (take (length n - headCount) (drop headCount n))
+pub state-loaded : (n : List ℕ) → isState n ≡ true → {first block events event time marks closed words : ℕ} {phase : Phase} {posted : List Bool} {settings : Settings} {scalers : Scalers}
+    → settings ≡ settingsFrom (take (length n - frontCount) (drop frontCount n))
+    → scalers ≡ scalersFrom n
     → first ≡ getD n phaseAt 0
     → phase ≡ phaseFrom first
     → marks ≡ getD n marksAt 0
@@ -53,11 +54,11 @@ pub state-loaded : (n : List ℕ) → isState n ≡ true → {first block events
     → time ≡ getD n triggerTimeAt 0
     → closed ≡ getD n closedAt 0 % 4294967296
     → words ≡ getD n wordsAt 0
-    → record { settings = settings; phase = phase; block = block; events = events; event = event; time = time; posted = posted; closed = closed; words = words } ≡ stateFrom n
+    → record { settings = settings; phase = phase; block = block; events = events; event = event; time = time; posted = posted; closed = closed; words = words; scalers = scalers } ≡ stateFrom n
 unfolding stateFrom
-state-loaded n e s p q m k b v w t c u =
-    let f = head-32 n e in
-    rw (s, q, p, k, m, b, v, w, t, c, u, tail-part n headCount, f .block, f .events, f .event, f .closed)
+state-loaded n e s x p q m k b v w t c u =
+    let f = front-32 n e in
+    rw (s, x, q, p, k, m, b, v, w, t, c, u, tail-part n frontCount, f .block, f .events, f .event, f .closed)
 
 -- ---- loading any numbers
 
@@ -94,15 +95,24 @@ state-other n s m h = rw (ne-eqb _ _ h)
 pub settings-other : (n : List ℕ) (s : State) (m : List ℕ) → length n ≡ stateCount → (length m ≡ settingsCount → ⊥) → n ≡ stateStored n s m
 settings-other n s m h k = rw (eq-eqb _ _ h, ne-eqb _ _ k)
 
--- the settings behind the head, then the head over the front
-pub state-stored : (n : List ℕ) (s : State) (m : List ℕ) {p n′ : List ℕ} → length n ≡ stateCount → length m ≡ settingsCount
-    → p ≡ pasted n headCount m → n′ ≡ headStored p s → n′ ≡ stateStored n s m
-state-stored n s m {p = p} h k o f =
-    let e : p ≡ splice n headCount m = o ∙ pasted-fits n headCount m (omega arith) in
-    let long : length p ≡ length n = ap length e ∙ length-splice n headCount m (omega arith) in
-    let rest : drop headCount p ≡ m =
-    sym (take-all (length m) (drop headCount p) (rw (length-drop headCount p) (omega arith)))
-    ∙ ap (λ (l : List ℕ). take (length m) (drop headCount l)) e
-    ∙ row-same n headCount m (omega arith)
-    in
-    rw (eq-eqb _ _ h, eq-eqb _ _ k) (f ∙ head-over p s (omega arith) ∙ ap (λ (l : List ℕ). headOf s ++ l) rest)
+-- the settings last, what is counted before them, then the head over the front
+pub state-stored : (n : List ℕ) (s : State) (m : List ℕ) {p q n′ : List ℕ} → length (scalerNumbers (s .scalers)) ≡ 38 → length n ≡ stateCount → length m ≡ settingsCount
+    → p ≡ pasted n frontCount m → q ≡ scalersStored p (s .scalers) → n′ ≡ headStored q s → n′ ≡ stateStored n s m
+unfolding splice
+state-stored n s m {p = p} {q = q} z h k o c f =
+    let cs = scalerNumbers (s .scalers) in
+    let e : p ≡ splice n frontCount m = o ∙ pasted-fits n frontCount m (omega arith) in
+    let long : length p ≡ length n = ap length e ∙ length-splice n frontCount m (omega arith) in
+    let last : drop frontCount p ≡ m =
+    sym (take-all (length m) (drop frontCount p) (rw (length-drop frontCount p) (omega arith)))
+    ∙ ap (λ (l : List ℕ). take (length m) (drop frontCount l)) e
+    ∙ row-same n frontCount m (omega arith) in
+    let g : q ≡ splice p headCount cs = c ∙ pasted-fits p headCount cs (omega (arith, z, long)) in
+    let size : length q ≡ length n = ap length g ∙ length-splice p headCount cs (omega (arith, z, long)) ∙ long in
+    let at : headCount + length cs ≡ frontCount = omega (arith, z) in
+    let behind : drop headCount q ≡ cs ++ m =
+    ap (drop headCount) g ∙ drop-spliced p cs (omega (arith, long)) ∙ ap (λ (l : List ℕ). cs ++ l) (ap (λ (i : ℕ). drop i p) at ∙ last) in
+    rw (eq-eqb _ _ h, eq-eqb _ _ k) (f ∙ head-over q s (omega (arith, size)) ∙ ap (λ (l : List ℕ). headOf s ++ l) behind)
+  where
+    drop-spliced : (p cs : List ℕ) → headCount ≤ length p → drop headCount (splice p headCount cs) ≡ cs ++ drop (headCount + length cs) p
+    drop-spliced p cs h = drop-at (take headCount p) (cs ++ drop (headCount + length cs) p) headCount (omega (arith, length-take headCount p))

@@ -3,10 +3,12 @@ ghost use mathlib.Core.Path.{_≡_};
 ghost use mathlib.Core.Bool.{true};
 ghost use Prim.Native.Nat.{_%_, _<_};
 ghost use lib.ListN.{length, getD, take, drop};
-ghost use Rattle.places.specs.Places.{thresholdsAt, isSettings, isState};
-ghost use Rattle.numbers.specs.Numbers.{settingsFrom, phaseFrom, marksFrom, stateFrom, settingsOrNone, stateOrNone};
+ghost use Rattle.ground.specs.TestsLaws.{Under};
+ghost use Rattle.places.specs.Places.{thresholdsAt, most32, isSettings, isState};
+ghost use Rattle.numbers.specs.Numbers.{settingsFrom, phaseFrom, marksFrom, scalersFrom, stateFrom, settingsOrNone, stateOrNone};
 use places::is_settings;
 use places::is_state;
+use scalers::Scalers;
 use settings::Settings;
 use state::Phase;
 use state::State;
@@ -102,11 +104,57 @@ fn marks_from(number: u64) -> [bool; 16]
     marks
 }
 
+// Numbers that 32-bit fields hold: sixteen of them,
+fn row_16(row: &[u64]) -> [u32; 16]
+    requires { ⌜ (length (now row) ≡ 16) × Under most32 (now row) ⌝ }
+    ensures { λ r. ⌜ r ≡ now (row .entry) ⌝ }
+{
+    let mut fields = [0u32; 16];
+    let mut i: usize = 0;
+    while i < 16 {
+        fields[i] = (row[i] % 4294967296) as u32;
+        i += 1;
+    }
+    fields
+}
+
+// and eighteen.
+fn row_18(row: &[u64]) -> [u32; 18]
+    requires { ⌜ (length (now row) ≡ 18) × Under most32 (now row) ⌝ }
+    ensures { λ r. ⌜ r ≡ now (row .entry) ⌝ }
+{
+    let mut fields = [0u32; 18];
+    let mut i: usize = 0;
+    while i < 18 {
+        fields[i] = (row[i] % 4294967296) as u32;
+        i += 1;
+    }
+    fields
+}
+
+fn scalers_from(numbers: &[u64]) -> Scalers
+    requires { ⌜ isState (now numbers) ≡ true ⌝ }
+    ensures { λ r. ⌜ r ≡ scalersFrom (now (numbers .entry)) ⌝ }
+{
+    let counts = row_16(&numbers[places::COUNTS..places::TIMER]);
+    let latched = row_18(&numbers[places::LATCHED..places::FRONT]);
+    let over = marks_from(at(numbers, places::OVER));
+    Scalers {
+        counts,
+        timer: at32(numbers, places::TIMER),
+        triggers: at32(numbers, places::TRIGGERS),
+        part: at32(numbers, places::PART),
+        over,
+        latched,
+    }
+}
+
 fn state_from(numbers: &[u64]) -> State
     requires { ⌜ isState (now numbers) ≡ true ⌝ }
     ensures { λ r. ⌜ r ≡ stateFrom (now (numbers .entry)) ⌝ }
 {
-    let settings = settings_from(&numbers[places::HEAD..]);
+    let settings = settings_from(&numbers[places::FRONT..]);
+    let scalers = scalers_from(numbers);
     let phase = phase_from(at(numbers, places::PHASE));
     let posted = marks_from(at(numbers, places::MARKS));
     State {
@@ -119,6 +167,7 @@ fn state_from(numbers: &[u64]) -> State
         posted,
         closed: at32(numbers, places::CLOSED),
         words: at(numbers, places::WORDS) as usize,
+        scalers,
     }
 }
 

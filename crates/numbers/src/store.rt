@@ -2,10 +2,12 @@
 ghost use mathlib.Core.Path.{_≡_};
 ghost use Prim.Native.Nat.{_≤_};
 ghost use lib.ListN.{length};
-ghost use Rattle.numbers.specs.Numbers.{markBit, phaseNumber, marksNumber, headOf, headStored, stateStored};
+ghost use Rattle.numbers.specs.Numbers.{markBit, phaseNumber, marksNumber, headOf, headStored, scalersStored, stateStored};
+use places::FRONT;
 use places::HEAD;
 use places::SETTINGS;
 use places::STATE;
+use scalers::Scalers;
 use state::Phase;
 use state::State;
 
@@ -39,7 +41,7 @@ fn marks_number(marks: &[bool]) -> u64
     number
 }
 
-// The numbers that a call may change.
+// The numbers that a call of writing may change.
 fn head_of(state: State) -> [u64; HEAD]
     ensures { λ r. ⌜ r ≡ headOf state ⌝ }
 {
@@ -59,7 +61,7 @@ fn head_of(state: State) -> [u64; HEAD]
     ]
 }
 
-// Stores a state's head; the settings behind it stay.
+// Stores a state's head; what is behind it stays.
 pub fn put_head(numbers: &mut [u64], state: State)
     ensures { λ _. ⌜ now (numbers .exit) ≡ headStored (now (numbers .entry)) state ⌝ }
 {
@@ -67,7 +69,57 @@ pub fn put_head(numbers: &mut [u64], state: State)
     copies::put64(numbers, 0, &head);
 }
 
-// Stores a state whole: its head, then the settings as they came.
+// Counts as numbers of 64 bits: sixteen of them,
+fn wide_16(counts: [u32; 16]) -> [u64; 16]
+    ensures { λ r. ⌜ r ≡ counts ⌝ }
+{
+    let mut numbers = [0u64; 16];
+    let mut i: usize = 0;
+    while i < 16 {
+        numbers[i] = counts[i] as u64;
+        i += 1;
+    }
+    numbers
+}
+
+// and eighteen.
+fn wide_18(counts: [u32; 18]) -> [u64; 18]
+    ensures { λ r. ⌜ r ≡ counts ⌝ }
+{
+    let mut numbers = [0u64; 18];
+    let mut i: usize = 0;
+    while i < 18 {
+        numbers[i] = counts[i] as u64;
+        i += 1;
+    }
+    numbers
+}
+
+// Stores what is counted; all else stays.
+pub fn put_scalers(numbers: &mut [u64], scalers: Scalers)
+    ensures { λ _. ⌜ now (numbers .exit) ≡ scalersStored (now (numbers .entry)) scalers ⌝ }
+{
+    if numbers.len() < FRONT {
+        return;
+    }
+    let over = scalers.over;
+    let running = scalers.counts;
+    let kept = scalers.latched;
+    let marks = marks_number(&over);
+    let counts = wide_16(running);
+    let between = [
+        scalers.timer as u64,
+        scalers.triggers as u64,
+        scalers.part as u64,
+        marks,
+    ];
+    let latched = wide_18(kept);
+    copies::put64(numbers, places::COUNTS, &counts);
+    copies::put64(numbers, places::TIMER, &between);
+    copies::put64(numbers, places::LATCHED, &latched);
+}
+
+// Stores a state whole: its head, what is counted, then the settings as they came.
 pub fn put_state(numbers: &mut [u64], state: State, settings: &[u64])
     ensures { λ _. ⌜ now (numbers .exit) ≡ stateStored (now (numbers .entry)) state (now (settings .entry)) ⌝ }
 {
@@ -77,6 +129,8 @@ pub fn put_state(numbers: &mut [u64], state: State, settings: &[u64])
     if settings.len() != SETTINGS {
         return;
     }
-    copies::put64(numbers, HEAD, settings);
+    let scalers = state.scalers;
+    copies::put64(numbers, FRONT, settings);
+    put_scalers(numbers, scalers);
     put_head(numbers, state);
 }

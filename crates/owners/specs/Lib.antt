@@ -1,4 +1,5 @@
 pub mod AloneLaws
+pub mod AsideLaws
 pub mod Order
 pub mod OrderLaws
 pub mod Own

@@ -7,7 +7,7 @@ use mathlib.Core.List.{List, [], _∷_, _++_, map}
 use native.Mathlib.Omega.{arith}
 use borrow.Author.Tests.{eqb-true, eqb-false, eq-eqb, ne-eqb, not-true}
 use lib.Dec.{eqb}
-use lib.ListN.{length, getD, drop, length-set}
+use lib.ListN.{length, getD, drop, length-set, length-append}
 use lib.Seq.{getD-set-same, getD-set-other}
 use Rattle.ground.specs.Order.{ToEach, steps}
 use Rattle.ground.specs.SpliceLaws.{row-same, row-before, row-behind}
@@ -21,13 +21,15 @@ use Rattle.event.specs.Event.{timeItems, channelsItems, eventItems}
 use Rattle.rows.specs.RowsLaws.{row-end}
 use Rattle.event.specs.EventLaws.{channelAt, channels-step, channels-end}
 use Rattle.state.specs.declared.State.{State}
-use Rattle.state.specs.State.{noMarks, withEvent, withMark}
-use Rattle.refusing.specs.Tables.{closingItems}
-use Rattle.writer.specs.CallsLaws.{done}
+use Rattle.scalers.specs.declared.Scalers.{Scalers}
+use Rattle.scalers.specs.Scalers.{oversOf, risesOf, addedTo, countFrame, framesOf, countFrames, triggered, latchedNow, resetNow}
+use Rattle.state.specs.State.{noMarks, withEvent, withMark, withScalers}
+use Rattle.writer.specs.CallsLaws.{done, refused}
 use Rattle.refusing.specs.TablesLaws.{open-event-accepted}
 use Rattle.state.specs.StateLaws.{block-says}
-use Rattle.owners.specs.Order.{Bench, Post, Differ, Apart}
-use Rattle.owners.specs.OrderLaws.{answerOf, after, posts, answered, zero-or, either-way, marked, left, has, after-done, after-refused, fits, number-after}
+use Rattle.owners.specs.Order.{Bench, Post, Aside, frames, latch, reset, Differ, Apart}
+use Rattle.owners.specs.AsideLaws.{zero-or, asideNumber, counted, scalersAfter, beside, asides}
+use Rattle.owners.specs.OrderLaws.{answerOf, after, posts, answered, either-way, marked, left, has, after-done, after-refused, fits, number-after}
 use Rattle.owners.specs.Own.{JustOpened, postedWindow}
 
 -- the window that channel c posts of a list, each post answered as if it came first
@@ -44,33 +46,42 @@ unfoldable pub ownItems : Settings → (ℕ → List (List ℕ)) → ℕ → ℕ
 ownItems s windows c zero = []
 ownItems s windows c (suc n) = itemsFor s c (windows c) ++ ownItems s windows (c + 1) n
 
+-- the header, the time words, and for each channel, rising, the records of its own window
+abbrev pub ownEvent : Settings → ℕ → ℕ → (ℕ → List (List ℕ)) → List Item
+ownEvent s number time windows = I.Event (record { slot = s .slot; number = number }) ∷ (timeItems (s .times) time ++ ownItems s windows 0 16)
+
+-- the records of the event but its scalers, if it closed now
+abbrev pub recordsOf : Bench → List Item
+recordsOf b = eventItems (b .state .settings) (b .state .event) (b .state .time) (b .state .posted) (b .store)
+
 -- ---- what posts leave alone
 
 -- what channel c would write if the event closed now
 abbrev partAt : Bench → ℕ → List Item
 partAt b c = channelAt (b .state .settings) (b .store) (b .state .posted) c
 
--- the settings, the event's number and time
+-- the settings, the event's number and time, what is counted
 record Same (a b : Bench) : Type 0 where
   settings : a .state .settings ≡ b .state .settings
   event : a .state .event ≡ b .state .event
   time : a .state .time ≡ b .state .time
+  scalers : a .state .scalers ≡ b .state .scalers
   marks : length (a .state .posted) ≡ length (b .state .posted)
 
 same-after : (b : Bench) (p : Post) → Same (after b p) b
 unfolding left marked withMark
 same-after b p =
     zero-or (answerOf b p)
-    (λ e. rw (after-done b p e) (record { settings = refl; event = refl; time = refl; marks = length-set (b .state .posted) (p .channel) true }))
-    (λ e. rw (after-refused b p e) (record { settings = refl; event = refl; time = refl; marks = refl }))
+    (λ e. rw (after-done b p e) (record { settings = refl; event = refl; time = refl; scalers = refl; marks = length-set (b .state .posted) (p .channel) true }))
+    (λ e. rw (after-refused b p e) (record { settings = refl; event = refl; time = refl; scalers = refl; marks = refl }))
 
 same-posts : (b : Bench) (l : List Post) → Same (posts b l) b
 unfolding steps
-same-posts b [] = record { settings = refl; event = refl; time = refl; marks = refl }
+same-posts b [] = record { settings = refl; event = refl; time = refl; scalers = refl; marks = refl }
 same-posts b (p ∷ l) =
     let i = same-posts (after b p) l in
     let j = same-after b p in
-    record { settings = i .settings ∙ j .settings; event = i .event ∙ j .event; time = i .time ∙ j .time; marks = i .marks ∙ j .marks }
+    record { settings = i .settings ∙ j .settings; event = i .event ∙ j .event; time = i .time ∙ j .time; scalers = i .scalers ∙ j .scalers; marks = i .marks ∙ j .marks }
 
 -- another channel's row and mark
 other-row : (b : Bench) (p : Post) (c : ℕ) → c ≢ p .channel → answerOf b p ≡ 0
@@ -218,12 +229,72 @@ own-channels b l o a c (suc n) e =
     (own-part c b l (omega (arith, o .sixteen)) (unmarked (b .state .posted) c (o .none)) a)
     (own-channels b l o a (c + 1) n (omega arith))
 
--- the header, the time words, and for each channel, rising, the records of its own window; whatever the store held before
+-- for each channel, rising, the records of its own window; whatever the store held before
 pub own-records : (b : Bench) (l : List Post) → JustOpened (b .state) → Apart l
-    → closingItems (posts b l .state) (posts b l .store)
-    ≡ I.Event (record { slot = b .state .settings .slot; number = b .state .event })
-    ∷ (timeItems (b .state .settings .times) (b .state .time) ++ ownItems (b .state .settings) (windowFor b l) 0 16)
+    → recordsOf (posts b l) ≡ ownEvent (b .state .settings) (b .state .event) (b .state .time) (windowFor b l)
 unfolding eventItems
 own-records b l o a =
     let s = same-posts b l in
     rw (own-channels b l (unposted o) a 0 16 refl, s .settings, s .event, s .time)
+
+-- calls that count change none of them
+pub records-asides : (b : Bench) (ks : List Aside) → recordsOf (asides b ks) ≡ recordsOf b
+unfolding steps beside withScalers
+records-asides b [] = refl
+records-asides b (k ∷ ks) = records-asides (beside b k) ks
+
+-- the number and the time are those that the event was opened with
+pub opened-as : {s : State} (o : JustOpened s) → (s .event ≡ o .number) × (s .time ≡ o .time)
+unfolding withEvent
+opened-as o =
+    let n = sym (o .says .refusal) ∙ o .accepted in
+    let gave = o .gave ∙ (o .says .state ∙ done _ _ n) in
+    (ap (λ (s : State). s .event) gave, ap (λ (s : State). s .time) gave)
+
+-- ---- how much is counted
+
+-- no more counts than the arrays hold
+record Sized (c : Scalers) : Type 0 where
+  counts : length (c .counts) ≤ 16
+  latched : length (c .latched) ≤ 18
+
+length-added : (xs ys : List ℕ) → length (addedTo xs ys) ≤ length xs
+unfolding addedTo
+length-added [] ys = omega arith
+length-added (x ∷ xs) [] = omega arith
+length-added (x ∷ xs) (y ∷ ys) = omega (arith, length-added xs ys)
+
+sized-frames : (ts : List ℕ) (c : Scalers) (fs : List (List ℕ)) → Sized c → Sized (countFrames ts c fs)
+unfolding countFrames countFrame
+sized-frames ts c [] z = z
+sized-frames ts c (f ∷ fs) z =
+    let n = length-added (c .counts) (risesOf (c .over) (oversOf ts f)) in
+    sized-frames ts (countFrame ts c f) fs (record { counts = omega (arith, n, z .counts); latched = z .latched })
+
+sized-counted : (ts : List ℕ) (c : Scalers) (k : Aside) → Sized c → Sized (counted ts c k)
+unfolding counted latchedNow resetNow
+sized-counted ts c (frames samples) z = sized-frames ts c (framesOf samples) z
+sized-counted ts c latch z = record { counts = z .counts; latched = omega (arith, z .counts, length-append (c .counts) (c .timer ∷ c .triggers ∷ [])) }
+sized-counted ts c reset z = record { counts = omega arith; latched = z .latched }
+
+sized-beside : (s : State) (k : Aside) → Sized (s .scalers) → Sized (scalersAfter s k)
+unfolding scalersAfter
+sized-beside s k z =
+    zero-or (asideNumber s k)
+    (λ e. subst Sized (sym (done _ _ e)) (sized-counted (s .settings .thresholds) (s .scalers) k z))
+    (λ e. subst Sized (sym (refused (asideNumber s k) _ _ e)) z)
+
+sized-asides : (b : Bench) (ks : List Aside) → Sized (b .state .scalers) → Sized (asides b ks .state .scalers)
+unfolding steps beside withScalers
+sized-asides b [] z = z
+sized-asides b (k ∷ ks) z = sized-asides (beside b k) ks (sized-beside (b .state) k z)
+
+sized-opened : {s : State} → JustOpened s → Sized (s .scalers)
+unfolding withEvent triggered
+sized-opened o =
+    let n = sym (o .says .refusal) ∙ o .accepted in
+    subst (λ (s : State). Sized (s .scalers)) (sym (o .gave ∙ (o .says .state ∙ done _ _ n))) (record { counts = omega (arith, o .counts); latched = omega (arith, o .eighteen) })
+
+-- at most eighteen counts are latched
+pub latched-le : (b : Bench) (l : List Post) (ks : List Aside) → JustOpened (b .state) → length (asides (posts b l) ks .state .scalers .latched) ≤ 18
+latched-le b l ks o = sized-asides (posts b l) ks (subst Sized (sym (same-posts b l .scalers)) (sized-opened o)) .latched

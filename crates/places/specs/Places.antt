@@ -1,7 +1,7 @@
 -- Where each number of settings and of a state stands, and which numbers are settings, which a state. Assumes nothing.
 use Prim.Native.Nat.{ℕ, _+_}
 use mathlib.Core.Bool.{Bool, true, false, _&&_}
-use mathlib.Core.List.{List, [], _∷_}
+use mathlib.Core.List.{List, [], _∷_, _++_}
 use lib.Dec.{leb}
 use lib.ListN.{length, take, drop, replicate}
 
@@ -89,9 +89,41 @@ headLimits = 2 ∷ most32 ∷ most32 ∷ most32 ∷ most64 ∷ 65535 ∷ most32 
 abbrev pub headCount : ℕ
 headCount = length headLimits
 
--- the settings stand last in a state, behind its head
+-- ---- what is counted, behind the head: the channels' counts, timer, triggers, part group, who was over, and the eighteen latched counts
+
+abbrev pub countsAt : ℕ
+countsAt = 8
+
+abbrev pub timerAt : ℕ
+timerAt = 24
+
+abbrev pub triggersAt : ℕ
+triggersAt = 25
+
+abbrev pub partAt : ℕ
+partAt = 26
+
+abbrev pub overAt : ℕ
+overAt = 27
+
+abbrev pub latchedAt : ℕ
+latchedAt = 28
+
+abbrev pub scalerLimits : List ℕ
+scalerLimits = replicate 19 most32 ++ (65535 ∷ replicate 18 most32)
+
+abbrev pub scalerCount : ℕ
+scalerCount = length scalerLimits
+
+-- all that stands before the settings, which stand last in a state
+abbrev pub frontLimits : List ℕ
+frontLimits = headLimits ++ scalerLimits
+
+abbrev pub frontCount : ℕ
+frontCount = length frontLimits
+
 abbrev pub stateCount : ℕ
-stateCount = headCount + settingsCount
+stateCount = frontCount + settingsCount
 
 -- ---- which numbers are settings, which are a state
 
@@ -106,6 +138,6 @@ heldIn (m ∷ ms) (n ∷ ns) = leb n m && heldIn ms ns
 unfoldable pub isSettings : List ℕ → Bool
 isSettings n = heldIn settingsLimits n
 
--- a state: its head, then the settings
+-- a state: its head and what is counted, then the settings
 unfoldable pub isState : List ℕ → Bool
-isState n = heldIn headLimits (take headCount n) && isSettings (drop headCount n)
+isState n = heldIn frontLimits (take frontCount n) && isSettings (drop frontCount n)

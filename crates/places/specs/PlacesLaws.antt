@@ -9,10 +9,10 @@ use native.Mathlib.Numerals.{add-one}
 use native.Mathlib.Nat.{mod-eq-of-lt}
 use borrow.Author.Tests.{leb-true}
 use lib.ListN.{length, getD, take, drop, replicate, length-drop, length-take, length-append, drop-of-length-le, take-append-drop}
-use lib.Seq.{drop-cons, take-all, getD-take, getD-drop}
+use lib.Seq.{drop-cons, take-all, take-add, getD-take, getD-drop}
 use Rattle.ground.specs.Tests.{allLe}
 use Rattle.ground.specs.TestsLaws.{and-left, and-right}
-use Rattle.places.specs.Places.{modeAt, plAt, slotAt, timesAt, multipleAt, thresholdsAt, most32, settingsLimits, settingsCount, blockAt, eventsAt, eventAt, closedAt, headLimits, headCount, stateCount, heldIn, isSettings, isState}
+use Rattle.places.specs.Places.{modeAt, plAt, slotAt, timesAt, multipleAt, thresholdsAt, most32, settingsLimits, settingsCount, blockAt, eventsAt, eventAt, closedAt, headLimits, headCount, timerAt, triggersAt, partAt, scalerLimits, frontLimits, frontCount, stateCount, heldIn, isSettings, isState}
 
 -- ---- held numbers, from place i on: what was asked and what is left are the whole
 
@@ -74,17 +74,17 @@ settings-count n e = held-length settingsLimits n e
 pub state-count : (n : List ℕ) → isState n ≡ true → length n ≡ stateCount
 unfolding isState
 state-count n e =
-    let h = held-length headLimits (take headCount n) (and-left _ (isSettings (drop headCount n)) e) in
-    let k = settings-count (drop headCount n) (and-right (heldIn headLimits (take headCount n)) _ e) in
-    omega (arith, h, k, length-take headCount n, length-drop headCount n)
+    let h = held-length frontLimits (take frontCount n) (and-left _ (isSettings (drop frontCount n)) e) in
+    let k = settings-count (drop frontCount n) (and-right (heldIn frontLimits (take frontCount n)) _ e) in
+    omega (arith, h, k, length-take frontCount n, length-drop frontCount n)
 
-pub short-none : (n : List ℕ) → length n < headCount → isState n ≡ false
+pub short-none : (n : List ℕ) → length n < frontCount → isState n ≡ false
 unfolding isState
-short-none n h = rw (held-other headLimits (take headCount n) (λ (e : length (take headCount n) ≡ headCount). omega (arith, length-take headCount n)))
+short-none n h = rw (held-other frontLimits (take frontCount n) (λ (e : length (take frontCount n) ≡ frontCount). omega (arith, length-take frontCount n)))
 
-pub state-settings-held : (n : List ℕ) → isState n ≡ true → isSettings (drop headCount n) ≡ true
+pub state-settings-held : (n : List ℕ) → isState n ≡ true → isSettings (drop frontCount n) ≡ true
 unfolding isState
-state-settings-held n e = and-right (heldIn headLimits (take headCount n)) _ e
+state-settings-held n e = and-right (heldIn frontLimits (take frontCount n)) _ e
 
 -- ---- 32-bit fields lose nothing
 
@@ -128,23 +128,30 @@ thresholds-16 n e = omega (arith, settings-count n e, length-take 16 (drop thres
 pub threshold-at : (n : List ℕ) → isSettings n ≡ true → (i : ℕ) → i < 16 → getD n (thresholdsAt + i) 0 % 4294967296 ≡ getD (take 16 (drop thresholdsAt n)) i 0
 threshold-at n e i h = threshold-32 n e i ∙ sym (getD-take 16 (drop thresholdsAt n) i 0 h ∙ getD-drop thresholdsAt n i 0)
 
-pub head-held : (n : List ℕ) → isState n ≡ true → (i : ℕ) → i < headCount → getD n i 0 ≤ getD headLimits i 0
+-- any number before the settings
+pub front-held : (n : List ℕ) → isState n ≡ true → (i : ℕ) → i < frontCount → getD n i 0 ≤ getD frontLimits i 0
 unfolding isState
-head-held n e i h = rw (← getD-take headCount n i 0 h) (held-at headLimits (take headCount n) (and-left _ (isSettings (drop headCount n)) e) i)
+front-held n e i h = rw (← getD-take frontCount n i 0 h) (held-at frontLimits (take frontCount n) (and-left _ (isSettings (drop frontCount n)) e) i)
 
-pub record Head32 (n : List ℕ) : Type 0 where
+pub record Front32 (n : List ℕ) : Type 0 where
   pub block : getD n blockAt 0 % 4294967296 ≡ getD n blockAt 0
   pub events : getD n eventsAt 0 % 4294967296 ≡ getD n eventsAt 0
   pub event : getD n eventAt 0 % 4294967296 ≡ getD n eventAt 0
   pub closed : getD n closedAt 0 % 4294967296 ≡ getD n closedAt 0
+  pub timer : getD n timerAt 0 % 4294967296 ≡ getD n timerAt 0
+  pub triggers : getD n triggersAt 0 % 4294967296 ≡ getD n triggersAt 0
+  pub part : getD n partAt 0 % 4294967296 ≡ getD n partAt 0
 
-pub head-32 : (n : List ℕ) → isState n ≡ true → Head32 n
-head-32 n e =
+pub front-32 : (n : List ℕ) → isState n ≡ true → Front32 n
+front-32 n e =
     record {
-      block = fits32 (head-held n e blockAt (omega arith)) refl;
-      events = fits32 (head-held n e eventsAt (omega arith)) refl;
-      event = fits32 (head-held n e eventAt (omega arith)) refl;
-      closed = fits32 (head-held n e closedAt (omega arith)) refl;
+      block = fits32 (front-held n e blockAt (omega arith)) refl;
+      events = fits32 (front-held n e eventsAt (omega arith)) refl;
+      event = fits32 (front-held n e eventAt (omega arith)) refl;
+      closed = fits32 (front-held n e closedAt (omega arith)) refl;
+      timer = fits32 (front-held n e timerAt (omega arith)) refl;
+      triggers = fits32 (front-held n e triggersAt (omega arith)) refl;
+      part = fits32 (front-held n e partAt (omega arith)) refl;
     }
 
 -- a part to the end
@@ -170,8 +177,31 @@ pub settings-short : (n : List ℕ) → length n < 16 → isSettings n ≡ false
 unfolding isSettings
 settings-short n h = held-other settingsLimits n (λ (e : length n ≡ settingsCount). omega arith)
 
--- the two parts of a state's numbers, as the code cuts them
-pub state-asked : (n : List ℕ) {l : List ℕ} {h s : Bool} → l ≡ headLimits → h ≡ heldIn l (take headCount n) → s ≡ isSettings (take (length n - headCount) (drop headCount n)) → h && s ≡ isState n
+-- a run of equal limits among those before the settings: each number there is of 32 bits
+pub front-32-at : (n : List ℕ) → isState n ≡ true → (i : ℕ) → i < frontCount → getD frontLimits i 0 ≡ most32 → getD n i 0 % 4294967296 ≡ getD n i 0
+front-32-at n e i h k = fits32 (front-held n e i h) k
+
+-- what is counted, as the code cuts it: 32 bits each, but for who was over
+pub scalers-asked : (l : List ℕ) {a b : Bool} → length l ≡ 38 → a ≡ allLe most32 (take 19 l) → b ≡ allLe most32 (drop 20 l) → a && (leb (getD l 19 0) 65535 && b) ≡ heldIn scalerLimits l
+unfolding heldIn
+scalers-asked l h e f =
+    let first : length (take 19 l) ≡ 19 = omega (arith, length-take 19 l) in
+    let rest : length (drop 19 l) ≡ 19 = omega (arith, length-drop 19 l) in
+    let last : length (drop 20 l) ≡ 18 = omega (arith, length-drop 20 l) in
+    let over : drop 19 l ≡ getD l 19 0 ∷ drop 20 l = drop-cons l 19 0 (omega (arith, h)) in
+    let high : heldIn (65535 ∷ replicate 18 most32) (drop 19 l) ≡ leb (getD l 19 0) 65535 && heldIn (replicate 18 most32) (drop 20 l) = ap (heldIn (65535 ∷ replicate 18 most32)) over in
+    ap₂ (λ (x y : Bool). x && (leb (getD l 19 0) 65535 && y)) (e ∙ sym (held-same most32 19 (take 19 l) first)) (f ∙ sym (held-same most32 18 (drop 20 l) last))
+    ∙ ap (λ (x : Bool). heldIn (replicate 19 most32) (take 19 l) && x) (sym high)
+    ∙ sym (held-parts (replicate 19 most32) (65535 ∷ replicate 18 most32) (take 19 l) (drop 19 l) rest)
+    ∙ ap (heldIn scalerLimits) (take-append-drop 19 l)
+
+-- the three parts of a state's numbers, as the code cuts them
+pub state-asked : (n : List ℕ) {l : List ℕ} {h c s : Bool} → frontCount ≤ length n → l ≡ headLimits → h ≡ heldIn l (take headCount n) → c ≡ heldIn scalerLimits (take 38 (drop headCount n))
+    → s ≡ isSettings (take (length n - frontCount) (drop frontCount n)) → h && (c && s) ≡ isState n
 unfolding isState
-state-asked n e f g =
-    ap₂ _&&_ (f ∙ ap (λ (l : List ℕ). heldIn l (take headCount n)) e) (g ∙ ap isSettings (tail-part n headCount))
+state-asked n {l} {h} {c} {s} long e f g k =
+    let size : length (take 38 (drop headCount n)) ≡ 38 = omega (arith, long, length-take 38 (drop headCount n), length-drop headCount n) in
+    let both : take headCount n ++ take 38 (drop headCount n) ≡ take frontCount n = sym (take-add headCount 38 n) in
+    let front : heldIn frontLimits (take frontCount n) ≡ h && c =
+    ap (heldIn frontLimits) (sym both) ∙ held-parts headLimits scalerLimits (take headCount n) (take 38 (drop headCount n)) size ∙ ap₂ _&&_ (sym (f ∙ ap (λ (x : List ℕ). heldIn x (take headCount n)) e)) (sym g) in
+    sym (and-assoc h c s) ∙ ap₂ _&&_ (sym front) (k ∙ ap isSettings (tail-part n frontCount))

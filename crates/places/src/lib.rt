@@ -1,8 +1,8 @@
 // Where each number of settings and of a state stands, which numbers are settings, and which are a state.
 ghost use mathlib.Core.Path.{_≡_};
-ghost use lib.ListN.{take};
+ghost use lib.ListN.{length, take};
 ghost use Rattle.ground.specs.Tests.{allLe};
-ghost use Rattle.places.specs.Places.{thresholdsAt, most32, settingsLimits, headLimits, heldIn, isSettings, isState};
+ghost use Rattle.places.specs.Places.{thresholdsAt, most32, settingsLimits, headLimits, scalerLimits, heldIn, isSettings, isState};
 
 // Where the settings stand; the sixteen thresholds are the last.
 pub const MODE: usize = 0;
@@ -31,7 +31,7 @@ pub const CHANNELS: usize = 16;
 
 pub const SETTINGS: usize = THRESHOLDS + CHANNELS;
 
-// Where a state's own numbers stand, the head; the settings are behind them.
+// Where a state's own numbers stand, the head.
 pub const PHASE: usize = 0;
 
 pub const BLOCK: usize = 1;
@@ -50,7 +50,26 @@ pub const WORDS: usize = 7;
 
 pub const HEAD: usize = WORDS + 1;
 
-pub const STATE: usize = HEAD + SETTINGS;
+// Where what is counted stands, behind the head: the counts of the channels, timer, triggers, part group, who was over, and the
+// latched counts.
+pub const COUNTS: usize = HEAD;
+
+pub const TIMER: usize = COUNTS + CHANNELS;
+
+pub const TRIGGERS: usize = TIMER + 1;
+
+pub const PART: usize = TRIGGERS + 1;
+
+pub const OVER: usize = PART + 1;
+
+pub const LATCHED: usize = OVER + 1;
+
+pub const SCALERS: usize = LATCHED + CHANNELS + 2 - HEAD;
+
+// All that stands before the settings.
+pub const FRONT: usize = HEAD + SCALERS;
+
+pub const STATE: usize = FRONT + SETTINGS;
 
 // The greatest numbers of a 32-bit and of a 64-bit field.
 const MOST_32: u64 = 4294967295;
@@ -135,15 +154,28 @@ pub fn is_settings(numbers: &[u64]) -> bool
     fields & thresholds
 }
 
-// A head that its fields hold, then settings.
+// What is counted: 32 bits each, but for who was over, a bit a channel. It is asked in two runs, many at once.
+fn held_scalers(numbers: &[u64]) -> bool
+    requires { ⌜ length (now numbers) ≡ 38 ⌝ }
+    ensures { λ r. ⌜ r ≡ heldIn scalerLimits (now (numbers .entry)) ⌝ }
+{
+    let over = OVER - HEAD;
+    let latched = LATCHED - HEAD;
+    let running = held_in_32(&numbers[..over]);
+    let kept = held_in_32(&numbers[latched..]);
+    running & ((numbers[over] <= 65535) & kept)
+}
+
+// A head that its fields hold, then what is counted, then settings.
 pub fn is_state(numbers: &[u64]) -> bool
     ensures { λ r. ⌜ r ≡ isState (now (numbers .entry)) ⌝ }
 {
-    if numbers.len() < HEAD {
+    if numbers.len() < FRONT {
         return false;
     }
-    let settings = is_settings(&numbers[HEAD..]);
+    let settings = is_settings(&numbers[FRONT..]);
+    let scalers = held_scalers(&numbers[HEAD..FRONT]);
     let limits = head_limits();
     let head = held_in(&limits, &numbers[..HEAD]);
-    head & settings
+    head & (scalers & settings)
 }

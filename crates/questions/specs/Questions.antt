@@ -37,6 +37,8 @@ slotWrong s (I.Time r) = false
 slotWrong s (I.Pedestal r) = false
 slotWrong s (I.Empty r) = false
 slotWrong s (I.Filler r) = not (eqb (r .slot) (s .slot))
+slotWrong s (I.Scalers r) = false
+slotWrong s (I.Scaler r) = false
 
 abbrev pub timeBy : Stage → ℕ → Bool
 timeBy P.Start high = false
@@ -48,6 +50,7 @@ timeBy P.Items high = false
 timeBy (P.Window n odd) high = false
 timeBy (P.Raw n some) high = false
 timeBy (P.Tail n) high = false
+timeBy (P.Scalers n) high = false
 
 -- "time bits 26-24 unequal": the second time word holds bits 47-24
 abbrev pub timeWrong : Scan → ℕ → Bool
@@ -63,6 +66,7 @@ flagBy P.Items flag = false
 flagBy (P.Window n odd) flag = not (eqb flag (cond (eqb n 1 && odd) 1 0))
 flagBy (P.Raw n some) flag = false
 flagBy (P.Tail n) flag = false
+flagBy (P.Scalers n) flag = false
 
 -- "a sample flag anywhere but bit 13 at the odd end, that flag absent at type 4's odd end"; in type 6 any pair may be the odd end
 abbrev pub flagWrong : Scan → ℕ → Bool
@@ -84,6 +88,8 @@ itemWrong s (I.Time r) = false
 itemWrong s (I.Pedestal r) = false
 itemWrong s (I.Empty r) = false
 itemWrong s (I.Filler r) = false
+itemWrong s (I.Scalers r) = false
+itemWrong s (I.Scaler r) = false
 
 -- "14 an event header beyond the stated events, a trailer before them, a wrong trailer count"
 abbrev pub countWrong : Scan → Item → Bool
@@ -101,6 +107,8 @@ countWrong s (I.Time r) = false
 countWrong s (I.Pedestal r) = false
 countWrong s (I.Empty r) = false
 countWrong s (I.Filler r) = false
+countWrong s (I.Scalers r) = false
+countWrong s (I.Scaler r) = false
 
 -- asked of the record that the word holds; where none may stand there is nothing to ask
 abbrev pub ofForm : (Form → Bool) → Meaning → Bool

@@ -12,6 +12,7 @@ ghost use Rattle.items.specs.Items.{itemFrom, fixedIn};
 ghost use Rattle.questions.specs.Questions.{atLimit, timeWrong, flagWrong, itemWrong, countWrong, refusals};
 use framing::block_header::BlockHeader;
 use framing::parameters::Parameters;
+use framing::scalers::ScalerHeader;
 use framing::trailer::BlockTrailer;
 use framing::trigger_time_high::TriggerTimeHigh;
 use items::Form;
@@ -154,5 +155,7 @@ pub fn refusal(scan: Scan, form: Form, word: u32) -> u32
         Form::Pedestal => 0,
         Form::Empty => 0,
         Form::Filler => first_wrong(slot_wrong(scan, word), false, false),
+        Form::Scalers => first_wrong(false, !ScalerHeader::fixed(word), false),
+        Form::Scaler => 0,
     }
 }

@@ -1,8 +1,8 @@
--- The pairs of a raw item: document 01, "The words" and "Reading". Assumes nothing.
+-- The pairs of a raw item: document 01, "The words" and "Reading"; the words of an event's scalers: document 02. Assumes nothing.
 use Prim.Native.Nat.{ℕ, _+_}
 use mathlib.Core.Bool.{Bool, true, false, not, cond, _||_}
 use mathlib.Core.List.{List, [], _∷_}
-use lib.Dec.{leb}
+use lib.Dec.{eqb, leb}
 use lib.ListN.{length, take, drop}
 use Rattle.fields.specs.Tag.{isContinuation}
 use Rattle.scan.specs.After.{onward}
@@ -26,8 +26,10 @@ dueBy P.Items more = false
 dueBy (P.Window n odd) more = true
 dueBy (P.Raw n some) more = not some || more
 dueBy (P.Tail n) more = false
+dueBy (P.Scalers n) more = not (eqb n 0)
 
--- "Type 4 has ceil(width/2) pairs, type 6 has 1 to 250": a pair has to come, in type 6 a first one, then while the next word goes on
+-- "Type 4 has ceil(width/2) pairs, type 6 has 1 to 250": a pair has to come, in type 6 a first one, then while the next word goes on; 02: of the
+-- scalers "the reader takes the stated count"
 abbrev pub pairDue : Scan → Bool → Bool
 pairDue s more = dueBy (s .stage) more
 
@@ -36,7 +38,7 @@ onPair (S.Went f u) t n go = go u
 onPair (S.Refused r place) t n go = G.Bad r place
 onPair S.Ended t n go = G.All n t
 
--- the pairs from t on, n of them read; a count grows up to its largest value and stays there
+-- the pairs from t on, or the scalers' words, n of them read; a count grows up to its largest value and stays there
 unfoldable pub pairsFrom : Scan → ℕ → List ℕ → Pairing
 pairsFrom t n [] = cond (pairDue t false) (G.Bad (endNumber t) (t .place)) (G.All n t)
 pairsFrom t n (word ∷ words) = cond (pairDue t (isContinuation word)) (onPair (stepAt t word) t n (λ u. pairsFrom u (onward n) words)) (G.All n t)

@@ -1,4 +1,5 @@
-// A raw item's pairs: type 4 has those of its width, type 6 as many as follow; and their part of the caller's words.
+// A raw item's pairs: type 4 has those of its width, type 6 as many as follow; an event's scalers: as many words as stated; and their part of the
+// caller's words.
 ghost use mathlib.Core.List.{[]};
 ghost use mathlib.Core.Path.{_≡_};
 ghost use lib.ListN.{drop};
@@ -8,19 +9,19 @@ use reader::Step;
 use scan::Scan;
 use scan::Stage;
 
-// Where a raw item's pairs stand: the place of the first, and how many.
+// Where a raw item's pairs stand, or the words of an event's scalers: the place of the first, and how many.
 pub struct Pairs {
     pub place: u32,
     pub count: u32,
 }
 
-// The pairs of a raw item: all of them and the scan behind, or a refusal and its place.
+// The pairs of a raw item, or the words of an event's scalers: all of them and the scan behind, or a refusal and its place.
 pub enum Pairing {
     All(u32, Scan),
     Bad(u32, u32),
 }
 
-// Whether a pair has to come; `going` says that the next word is a continuation.
+// Whether a pair, or a word of the scalers, has to come; `going` says that the next word is a continuation.
 fn pair_due(scan: Scan, going: bool) -> bool
     ensures { λ r. ⌜ r ≡ pairDue scan going ⌝ }
 {
@@ -35,6 +36,7 @@ fn pair_due(scan: Scan, going: bool) -> bool
         Stage::Window(_, _) => true,
         Stage::Raw(_, some) => !some | going,
         Stage::Tail(_) => false,
+        Stage::Scalers(n) => n != 0,
     }
 }
 
@@ -48,7 +50,7 @@ fn pairs_end(scan: Scan, count: u32) -> Pairing
     }
 }
 
-// The pairs of a raw item, from the word at `from` on.
+// The pairs of a raw item, or the words of an event's scalers, from the word at `from` on.
 pub fn pairs_from(words: &[u32], from: usize, scan: Scan) -> Pairing
     ensures { λ r. ⌜ r ≡ pairsFrom scan 0 (drop from (now (words .entry))) ⌝ }
 {
@@ -79,7 +81,7 @@ pub fn pairs_from(words: &[u32], from: usize, scan: Scan) -> Pairing
     pairs_end(t, count)
 }
 
-// The words of a raw item's pairs; none where they do not lie in the words.
+// The words of a raw item's pairs, or of an event's scalers; none where they do not lie in the words.
 pub fn part(words: &[u32], pairs: Pairs) -> &[u32]
     ensures { λ r. ⌜ now r ≡ partOf (now (words .entry)) pairs ⌝ }
 {

@@ -1,13 +1,13 @@
 -- The reader's answers in document 01's own numbers, and what its two steps promise. "If an answer is an enum, a definition gives this
 -- paper's number and values for each of its cases." Assumes nothing.
-use Prim.Native.Nat.{ℕ, _+_}
+use Prim.Native.Nat.{ℕ}
 use mathlib.Core.Path.{_≡_}
 use mathlib.Core.Bool.{cond}
 use mathlib.Core.List.{List, [], _∷_, map}
 use lib.Dec.{eqb}
 use lib.ListN.{drop}
 use Rattle.fields.specs.Word.{Field}
-use Rattle.items.specs.Items.{rowOf, formOf, itemFrom, bitOf}
+use Rattle.items.specs.Items.{rowOf, formOf, itemFrom, tagFields}
 use Rattle.items.specs.declared.Form.{Form}
 use Rattle.items.specs.declared.Form.the-variants as F
 use Rattle.items.specs.declared.Item.{Item}
@@ -24,7 +24,7 @@ use Rattle.reader.specs.Reader.{stepAt, judgeAt}
 
 -- ---- a record's type and fields
 
--- the row's type in the table: "0, parameters (continuation)" and "3, second (continuation)" have theirs; a pair has none, 16
+-- the row's type in the table: "0, parameters (continuation)" and "3, second (continuation)" have theirs, and the scalers' words that of type 12; a pair has none, 16
 abbrev pub rowType : Form → ℕ
 rowType F.Block = 0
 rowType F.Parameters = 0
@@ -40,10 +40,12 @@ rowType F.Time = 8
 rowType F.Pedestal = 10
 rowType F.Empty = 14
 rowType F.Filler = 15
+rowType F.Scalers = 12
+rowType F.Scaler = 12
 
--- "fields, high to low": the row behind bit 31, and behind the type where the word has one
+-- "fields, high to low": the row behind its tag, where the word has one
 abbrev pub rowFields : Item → List ℕ
-rowFields x = drop (1 + bitOf (formOf x)) (map (λ (f : Field). f .value) (rowOf x))
+rowFields x = drop (tagFields (formOf x)) (map (λ (f : Field). f .value) (rowOf x))
 
 abbrev pub itemValues : Item → List ℕ
 itemValues x = rowType (formOf x) ∷ rowFields x

@@ -32,9 +32,11 @@ recordType (R.Pedestal r) = rowType F.Pedestal
 recordType (R.Trailer r) = rowType F.Trailer
 recordType (R.Fillers slot n) = rowType F.Filler
 recordType (R.Empty r) = rowType F.Empty
+recordType (R.Scalers p) = rowType F.Scalers
+recordType (R.Scaler r) = rowType F.Scaler
 
 -- the row's fields from the high end down, of a time of two words both rows'; "a raw item carries place and pair count"; of fillers their slot and
--- how many
+-- how many; of scalers their count, which is the row's field, and the place of their words
 abbrev pub recordValues : Record → List ℕ
 recordValues (R.Block r) = rowFields (I.Block r)
 recordValues (R.Parameters r) = rowFields (I.Parameters r)
@@ -51,6 +53,8 @@ recordValues (R.Pedestal r) = rowFields (I.Pedestal r)
 recordValues (R.Trailer r) = rowFields (I.Trailer r)
 recordValues (R.Fillers slot n) = slot ∷ n ∷ []
 recordValues (R.Empty r) = rowFields (I.Empty r)
+recordValues (R.Scalers p) = p .count ∷ p .place ∷ []
+recordValues (R.Scaler r) = rowFields (I.Scaler r)
 
 -- the number of the refusal, 0 where there is none
 abbrev pub nextNumber : Next → ℕ

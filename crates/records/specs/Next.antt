@@ -6,6 +6,7 @@ use mathlib.Core.List.{List, [], _∷_, map}
 use lib.Dec.{eqb}
 use lib.ListN.{length, drop}
 use Rattle.framing.specs.declared.trigger_time.TriggerTime.{TriggerTime}
+use Rattle.framing.specs.declared.scaler.ScalerWord.{ScalerWord}
 use Rattle.raw.specs.declared.pair.SamplePair.{SamplePair}
 use Rattle.items.specs.declared.Item.{Item}
 use Rattle.items.specs.declared.Item.the-variants as I
@@ -49,6 +50,12 @@ timeFrom r t words = withHigh r t (highFrom t words)
 abbrev pub fillersFrom : ℕ → Scan → List ℕ → Next
 fillersFrom slot t words = let f : Fill = fillFrom 1 t words in N.Took (R.Fillers slot (f .count)) (f .scan)
 
+-- ---- an event's scalers
+
+-- the words behind the head, as many as it states
+abbrev pub scalersFrom : Scan → List ℕ → Next
+scalersFrom t words = withPairs (λ p. R.Scalers p) (t .place) (pairsFrom t 0 words)
+
 -- ---- the next record
 
 -- the record that starts with this item, t the scan behind that
@@ -67,6 +74,8 @@ recordFrom (I.Time r) t words = N.Took (R.Time r) t
 recordFrom (I.Pedestal r) t words = N.Took (R.Pedestal r) t
 recordFrom (I.Empty r) t words = N.Took (R.Empty r) t
 recordFrom (I.Filler r) t words = fillersFrom (r .slot) t words
+recordFrom (I.Scalers r) t words = scalersFrom t words
+recordFrom (I.Scaler r) t words = N.Took (R.Scaler r) t
 
 -- the input's end: the block's end, or the refusal there
 abbrev pub ended : ℕ → ℕ → Next
@@ -112,6 +121,13 @@ pub record FillersMade (slot n : ℕ) (items : List Item) : Type 0 where
   pub all : AllAre (fillerAt slot) items
   pub many : n ≡ min (length items) mostCount
 
+-- an event's scalers: behind the head stand as many words as it states, from the place after the head on; so for every scan, since the count has six bits
+pub record ScalersMade (place : ℕ) (p : Pairs) (items : List Item) : Type 0 where
+  pub at : p .place ≡ place
+  pub words : List ScalerWord
+  pub all : items ≡ I.Scalers (record { count = p .count }) ∷ map (λ x. I.Scaler x) words
+  pub many : p .count ≡ length words
+
 -- the items that a record is made of; place is that of the word after its first
 abbrev pub Made : ℕ → Record → List Item → Type 0
 Made place (R.Block r) items = items ≡ I.Block r ∷ []
@@ -129,6 +145,8 @@ Made place (R.Pedestal r) items = items ≡ I.Pedestal r ∷ []
 Made place (R.Trailer r) items = items ≡ I.Trailer r ∷ []
 Made place (R.Fillers slot n) items = FillersMade slot n items
 Made place (R.Empty r) items = items ≡ I.Empty r ∷ []
+Made place (R.Scalers p) items = ScalersMade place p items
+Made place (R.Scaler r) items = items ≡ I.Scaler r ∷ []
 
 -- a pair stands first
 abbrev pub isPair : Item → Bool
@@ -146,6 +164,8 @@ isPair (I.Time r) = false
 isPair (I.Pedestal r) = false
 isPair (I.Empty r) = false
 isPair (I.Filler r) = false
+isPair (I.Scalers r) = false
+isPair (I.Scaler r) = false
 
 abbrev pub startsPair : List Item → Bool
 startsPair [] = false
@@ -168,6 +188,8 @@ OfRaw (R.Pedestal r) P = Unit {0}
 OfRaw (R.Trailer r) P = Unit {0}
 OfRaw (R.Fillers slot n) P = Unit {0}
 OfRaw (R.Empty r) P = Unit {0}
+OfRaw (R.Scalers p) P = Unit {0}
+OfRaw (R.Scaler r) P = Unit {0}
 
 -- a proof that computes opens this file and what it leans on by one name
 unfoldable pub allOpen : Unit {0}

@@ -1,8 +1,9 @@
-// What reading on in a block answers: the named records, a raw item with the place of its pairs.
+// What reading on in a block answers: the named records, a raw item with the place of its pairs, an event's scalers with that of their words.
 use framing::block_header::BlockHeader;
 use framing::empty::ModuleEmpty;
 use framing::event_header::EventHeader;
 use framing::parameters::Parameters;
+use framing::scaler::ScalerWord;
 use framing::trailer::BlockTrailer;
 use framing::trigger_time::TriggerTime;
 use framing::trigger_time_high::TriggerTimeHigh;
@@ -34,6 +35,10 @@ pub enum Record {
     // Fillers that follow each other: their slot, and how many.
     Fillers(u32, u32),
     Empty(ModuleEmpty),
+    // An event's scalers: where their words stand, as many as stated.
+    Scalers(Pairs),
+    // One of those words, to a scan that stands before it.
+    Scaler(ScalerWord),
 }
 
 // A record and the scan behind it; the block's end and its words; or a refusal and its place.

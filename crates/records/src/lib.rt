@@ -61,6 +61,10 @@ fn record_from(words: &[u32], from: usize, item: Item, scan: Scan) -> Next
         Item::Filler(r) => {
             return fillers_from(words, from, r.slot, scan);
         }
+        Item::Scalers(_) => {
+            return raw_item::scalers_from(words, from, scan);
+        }
+        Item::Scaler(r) => Record::Scaler(r),
     };
     Next::Took(record, scan)
 }

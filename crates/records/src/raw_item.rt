@@ -1,7 +1,7 @@
-// A raw item with its pairs.
+// A raw item with its pairs, an event's scalers with their words.
 ghost use mathlib.Core.Path.{_≡_};
 ghost use lib.ListN.{drop};
-ghost use Rattle.records.specs.Next.{recordFrom};
+ghost use Rattle.records.specs.Next.{scalersFrom, recordFrom};
 use crate::answer::Next;
 use crate::answer::Record;
 use items::Item;
@@ -38,6 +38,22 @@ pub(crate) fn raw_from(words: &[u32], from: usize, raw: PulseRaw, scan: Scan) ->
                 count: count,
             };
             Next::Took(Record::Raw(raw, part), after)
+        }
+        Pairing::Bad(number, place) => Next::Refused(number, place),
+    }
+}
+
+pub(crate) fn scalers_from(words: &[u32], from: usize, scan: Scan) -> Next
+    ensures { λ r. ⌜ r ≡ scalersFrom scan (drop from (now (words .entry))) ⌝ }
+{
+    let pairs = rawitems::pairs_from(words, from, scan);
+    match pairs {
+        Pairing::All(count, after) => {
+            let part = Pairs {
+                place: scan.place,
+                count: count,
+            };
+            Next::Took(Record::Scalers(part), after)
         }
         Pairing::Bad(number, place) => Next::Refused(number, place),
     }

@@ -1,9 +1,9 @@
--- The paper's number of each refusal: document 01, the tables of "One event, one store" and of "Reading". Assumes nothing.
+-- The paper's number of each refusal: document 01, the tables of "One event, one store" and of "Reading"; 19 is document 02's. Assumes nothing.
 use Prim.Native.Nat.{ℕ}
 use mathlib.Core.Bool.{cond}
 use lib.Dec.{eqb}
 use Rattle.refusals.specs.declared.Refusal.{Refusal}
-use Rattle.refusals.specs.declared.Refusal.the-variants.{None, Setting, Store, Sample, Channel, Length, Posted, Turn, Number, Room, State, Missing, Unallowed, Bits, Count, Slot, Bytes}
+use Rattle.refusals.specs.declared.Refusal.the-variants.{None, Setting, Store, Sample, Channel, Length, Posted, Turn, Number, Room, State, Missing, Unallowed, Bits, Count, Slot, Bytes, Frames}
 
 -- "given exactly when": the words behind each number are the table's; 0 is no refusal
 abbrev pub numberOf : Refusal → ℕ
@@ -40,6 +40,8 @@ numberOf Count = 14
 numberOf Slot = 15
 -- the input's bytes are no words
 numberOf Bytes = 16
+-- 02: "19 frame data not a multiple of sixteen"
+numberOf Frames = 19
 
 -- from C: an array is not as long as the header says, or holds what it cannot hold. It is no number of the paper's table
 abbrev pub badArray : ℕ

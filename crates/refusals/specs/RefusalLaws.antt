@@ -7,12 +7,12 @@ use borrow.Author.Tests.{eqb-true}
 use lib.Dec.{eqb}
 use lib.ListN.{getD}
 use Rattle.refusals.specs.declared.Refusal.{Refusal}
-use Rattle.refusals.specs.declared.Refusal.the-variants.{None, Setting, Store, Sample, Channel, Length, Posted, Turn, Number, Room, State, Missing, Unallowed, Bits, Count, Slot, Bytes}
+use Rattle.refusals.specs.declared.Refusal.the-variants.{None, Setting, Store, Sample, Channel, Length, Posted, Turn, Number, Room, State, Missing, Unallowed, Bits, Count, Slot, Bytes, Frames}
 use Rattle.refusals.specs.Refusal.{numberOf, orElse}
 
--- the refusal of a number
+-- the refusal of a number; 17 and 18 are none's
 abbrev refusalAt : ℕ → Refusal
-refusalAt n = getD (None ∷ Setting ∷ Store ∷ Sample ∷ Channel ∷ Length ∷ Posted ∷ Turn ∷ Number ∷ Room ∷ State ∷ Missing ∷ Unallowed ∷ Bits ∷ Count ∷ Slot ∷ Bytes ∷ []) n None
+refusalAt n = getD (None ∷ Setting ∷ Store ∷ Sample ∷ Channel ∷ Length ∷ Posted ∷ Turn ∷ Number ∷ Room ∷ State ∷ Missing ∷ Unallowed ∷ Bits ∷ Count ∷ Slot ∷ Bytes ∷ Frames ∷ Frames ∷ Frames ∷ []) n None
 
 refusal-back : (r : Refusal) → refusalAt (numberOf r) ≡ r
 refusal-back None = refl
@@ -32,6 +32,7 @@ refusal-back Bits = refl
 refusal-back Count = refl
 refusal-back Slot = refl
 refusal-back Bytes = refl
+refusal-back Frames = refl
 
 pub number-inj : (a b : Refusal) → numberOf a ≡ numberOf b → a ≡ b
 number-inj a b e = sym (refusal-back a) ∙ ap refusalAt e ∙ refusal-back b

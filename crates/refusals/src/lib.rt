@@ -3,7 +3,8 @@ ghost use mathlib.Core.Path.{_≡_};
 ghost use lib.Dec.{eqb};
 ghost use Rattle.refusals.specs.Refusal.{numberOf, badArray, orElse};
 
-// Why a call, a word or an input is refused; `None` where it is not. The paper's numbers are 0 to 16 in this order.
+// Why a call, a word or an input is refused; `None` where it is not. The paper's numbers are 0 to 16 in this
+// order, and 19.
 pub enum Refusal {
     None,
     // a setting out of range
@@ -38,6 +39,8 @@ pub enum Refusal {
     Slot,
     // bytes that are no words
     Bytes,
+    // samples that are no whole frames
+    Frames,
 }
 
 // From C: an array is not as long as the header says, or holds what it cannot hold. It is none of the paper's numbers.
@@ -65,6 +68,7 @@ pub fn number(refusal: Refusal) -> u32
         Refusal::Count => 14,
         Refusal::Slot => 15,
         Refusal::Bytes => 16,
+        Refusal::Frames => 19,
     }
 }
 

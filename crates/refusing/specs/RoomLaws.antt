@@ -27,18 +27,18 @@ unfolding firstOf
 late [] r o = refl
 late (x ∷ rs) r o = rw (o .0) (late rs r (o .1))
 
-module _ (s : State) (store : List ℕ) (room : ℕ) where
-  pub refused-before : eqb (beforeRoom s store) 0 ≡ false → closeNumber s store room ≡ beforeRoom s store
+module _ (s : State) (wanted : Bool) (store : List ℕ) (room : ℕ) where
+  pub refused-before : eqb (beforeRoom s store) 0 ≡ false → closeNumber s wanted store room ≡ beforeRoom s store
   unfolding beforeRoom closeNumber closeTable
-  refused-before h = early (take 4 (closeTable s store 0)) (9, ltb room (s .words + length (closingItems s store))) (eqb-false (beforeRoom s store) 0 h)
+  refused-before h = early (take 4 (closeTable s false store 0)) (9, ltb room (s .words + length (closingItems s wanted store))) (eqb-false (beforeRoom s store) 0 h)
 
   module _ (asked : beforeRoom s store ≡ 0) where
-    behind : closeNumber s store room ≡ cond (ltb room (s .words + length (closingItems s store))) 9 0
+    behind : closeNumber s wanted store room ≡ cond (ltb room (s .words + length (closingItems s wanted store))) 9 0
     unfolding beforeRoom closeNumber closeTable
-    behind = late (take 4 (closeTable s store 0)) (9, ltb room (s .words + length (closingItems s store))) (none (take 4 (closeTable s store 0)) refl asked)
+    behind = late (take 4 (closeTable s false store 0)) (9, ltb room (s .words + length (closingItems s wanted store))) (none (take 4 (closeTable s false store 0)) refl asked)
 
-    pub close-fits : s .words + length (closingItems s store) ≤ room → closeNumber s store room ≡ 0
+    pub close-fits : s .words + length (closingItems s wanted store) ≤ room → closeNumber s wanted store room ≡ 0
     close-fits h = behind ∙ ap (λ (b : Bool). cond {A = ℕ} b 9 0) (le-ltb _ _ h)
 
-    pub close-short : room < s .words + length (closingItems s store) → closeNumber s store room ≡ 9
+    pub close-short : room < s .words + length (closingItems s wanted store) → closeNumber s wanted store room ≡ 9
     close-short h = behind ∙ ap (λ (b : Bool). cond {A = ℕ} b 9 0) (lt-ltb _ _ h)

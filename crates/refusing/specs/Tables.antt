@@ -1,7 +1,7 @@
--- The refusal tables of the six calls, each in the paper's order: document 01, "Order: 10, 7, 8, 4, 5, 6, 2, 3, 9." Assumes nothing.
+-- The refusal tables of the calls that write, each in the paper's order: document 01, "Order: 10, 7, 8, 4, 5, 6, 2, 3, 9." Assumes nothing.
 use Prim.Native.Nat.{ℕ, _+_, _*_}
 use mathlib.Core.Bool.{Bool, false, not, _||_}
-use mathlib.Core.List.{List, [], _∷_}
+use mathlib.Core.List.{List, [], _∷_, _++_}
 use lib.ListN.{length, getD, take}
 use lib.Dec.{eqb, ltb}
 use Rattle.ground.specs.Tests.{firstOf}
@@ -12,6 +12,7 @@ use Rattle.items.specs.declared.Item.{Item}
 use Rattle.block.specs.Block.{blockItems, endItems}
 use Rattle.rows.specs.Rows.{rowsOk}
 use Rattle.event.specs.Event.{eventItems}
+use Rattle.tail.specs.Tail.{tailItems}
 use Rattle.state.specs.declared.State.{State}
 use Rattle.state.specs.State.{blockOk, eventOk, stateOk, isIdle, isBlock, isEvent}
 
@@ -65,25 +66,25 @@ postNumber s room c w = firstOf (postTable s room c w)
 
 -- ---- close the event
 
--- what closing writes: "event header, time words, then words for posted channels only"
-abbrev pub closingItems : State → List ℕ → List Item
-closingItems s store = eventItems (s .settings) (s .event) (s .time) (s .posted) store
+-- what closing writes: "event header, time words, then words for posted channels only"; 02: "On request a closed event ends with type 12 .. and the latched words"
+abbrev pub closingItems : State → Bool → List ℕ → List Item
+closingItems s asked store = eventItems (s .settings) (s .event) (s .time) (s .posted) store ++ tailItems asked (s .scalers .latched)
 
-unfoldable pub closeTable : State → List ℕ → ℕ → List (ℕ × Bool)
-closeTable s store room =
+unfoldable pub closeTable : State → Bool → List ℕ → ℕ → List (ℕ × Bool)
+closeTable s asked store room =
     (10, not (stateOk s))
     ∷ (7, not (isEvent (s .phase)))
     ∷ (2, ltb (length store) (16 * s .settings .nw))
     ∷ (3, not (rowsOk (s .settings .nw) store 0 (s .posted)))
-    ∷ (9, ltb room (s .words + length (closingItems s store)))
+    ∷ (9, ltb room (s .words + length (closingItems s asked store)))
     ∷ []
 
-unfoldable pub closeNumber : State → List ℕ → ℕ → ℕ
-closeNumber s store room = firstOf (closeTable s store room)
+unfoldable pub closeNumber : State → Bool → List ℕ → ℕ → ℕ
+closeNumber s asked store room = firstOf (closeTable s asked store room)
 
 -- all rows of it but the last, the room: what a close asks before it writes
 unfoldable pub beforeRoom : State → List ℕ → ℕ
-beforeRoom s store = firstOf (take 4 (closeTable s store 0))
+beforeRoom s store = firstOf (take 4 (closeTable s false store 0))
 
 -- ---- finish the block
 
@@ -100,5 +101,5 @@ finishNumber s room = firstOf (finishTable s room)
 
 -- a proof that computes opens this file and what it leans on by one name
 unfoldable pub allOpen : Unit {0}
-unfolding setUpNumber openBlockTable openBlockNumber openEventTable openEventNumber postTable postNumber closeTable closeNumber beforeRoom finishTable finishNumber Rattle.ground.specs.Tests.allOpen Rattle.settings.specs.Ranges.allOpen Rattle.samples.specs.Sample.allOpen Rattle.block.specs.Block.allOpen Rattle.rows.specs.Rows.allOpen Rattle.event.specs.Event.allOpen Rattle.state.specs.State.allOpen
+unfolding setUpNumber openBlockTable openBlockNumber openEventTable openEventNumber postTable postNumber closeTable closeNumber beforeRoom finishTable finishNumber Rattle.ground.specs.Tests.allOpen Rattle.settings.specs.Ranges.allOpen Rattle.samples.specs.Sample.allOpen Rattle.block.specs.Block.allOpen Rattle.rows.specs.Rows.allOpen Rattle.event.specs.Event.allOpen Rattle.tail.specs.Tail.allOpen Rattle.state.specs.State.allOpen
 allOpen = tt

@@ -14,14 +14,14 @@ use Rattle.rows.specs.Rows.{rowsOk}
 use Rattle.block.specs.Block.{blockItems, endItems}
 use Rattle.state.specs.declared.Phase.{Phase}
 use Rattle.state.specs.declared.State.{State}
-use Rattle.state.specs.State.{blockOk, eventOk, phaseOk, stateOk, isIdle, isBlock, isEvent}
+use Rattle.state.specs.State.{blockOk, eventOk, phaseOk, commonOk, stateOk, isIdle, isBlock, isEvent}
 use Rattle.state.specs.StateLaws.{state-in}
 use Rattle.refusing.specs.Tables.{setUpNumber, openBlockTable, openBlockNumber, openEventTable, openEventNumber, postTable, postNumber, closingItems, closeTable, closeNumber, finishTable, finishNumber}
 
 -- ---- the first two rows of a table on a state
 
--- in its phase the state's ranges are asked as those of its settings and of the phase
-pub ranges-asked : (s : State) (p : Phase) → s .phase ≡ p → {a b : Bool} → a ≡ settingsOk (s .settings) → b ≡ phaseOk p s → not (stateOk s) ≡ (not a || not b)
+-- in its phase the state's ranges are asked as those of any phase and of this one
+pub ranges-asked : (s : State) (p : Phase) → s .phase ≡ p → {a b : Bool} → a ≡ commonOk s → b ≡ phaseOk p s → not (stateOk s) ≡ (not a || not b)
 ranges-asked s p e {a = a} {b = b} f g = rw (state-in s p e, ← f, ← g) (go a)
   where
     go : (x : Bool) → not (x && b) ≡ (not x || not b)
@@ -107,17 +107,17 @@ post-accepted s room c w e =
 
 -- ---- close the event
 
-pub record CloseAccepted (s : State) (store : List ℕ) (room : ℕ) : Type 0 where
+pub record CloseAccepted (s : State) (asked : Bool) (store : List ℕ) (room : ℕ) : Type 0 where
   pub state : stateOk s ≡ true
   pub turn : isEvent (s .phase) ≡ true
   pub wide : 16 * s .settings .nw ≤ length store
   pub samples : rowsOk (s .settings .nw) store 0 (s .posted) ≡ true
-  pub fit : s .words + length (closingItems s store) ≤ room
+  pub fit : s .words + length (closingItems s asked store) ≤ room
 
-pub close-accepted : (s : State) (store : List ℕ) (room : ℕ) → closeNumber s store room ≡ 0 → CloseAccepted s store room
+pub close-accepted : (s : State) (asked : Bool) (store : List ℕ) (room : ℕ) → closeNumber s asked store room ≡ 0 → CloseAccepted s asked store room
 unfolding closeNumber closeTable
-close-accepted s store room e =
-    let o = none (closeTable s store room) refl e in
+close-accepted s asked store room e =
+    let o = none (closeTable s asked store room) refl e in
     let wide = o .1 .1 in
     record {
       state = not-false _ (o .0);

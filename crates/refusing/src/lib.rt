@@ -1,5 +1,6 @@
 // Which refusal a call is given: the rows of its table are asked in the paper's order, and none that an earlier one makes needless.
-// The phase alone is asked before the state's ranges: a call in turn then asks only the ranges of its own phase, in place.
+// The phase alone is asked before the state's ranges: a call in turn then asks only those of any phase and of its own, in
+// place.
 ghost use mathlib.Core.Path.{_≡_};
 ghost use mathlib.Core.Bool.{cond};
 ghost use Prim.Native.Nat.{_*_};
@@ -10,10 +11,10 @@ ghost use Rattle.refusing.specs.Tables.{openBlockNumber, openEventNumber
 use block::end_short;
 use items::put::room_short;
 use refusals::Refusal;
-use settings::in_range;
 use state::State;
 use state::ranges::between_ok;
 use state::ranges::block_ok;
+use state::ranges::common_ok;
 use state::ranges::during_ok;
 use state::ranges::event_ok;
 use state::ranges::head_words;
@@ -48,7 +49,7 @@ pub fn open_block_check(s: State, room: usize, number: u32, events: u32) -> Refu
     if !is_idle(phase) {
         return out_of_turn(s);
     }
-    let good = in_range(settings);
+    let good = common_ok(s);
     if !good | !idle_ok(s) {
         return Refusal::State;
     }
@@ -65,11 +66,10 @@ pub fn open_event_check(s: State, number: u32, time: u64) -> Refusal
     ensures { λ r. ⌜ numberOf r ≡ openEventNumber s number time ⌝ }
 {
     let phase = s.phase;
-    let settings = s.settings;
     if !is_block(phase) {
         return out_of_turn(s);
     }
-    let good = in_range(settings);
+    let good = common_ok(s);
     if !good | !between_ok(s) {
         return Refusal::State;
     }
@@ -92,7 +92,7 @@ pub fn post_check(s: State, room: usize, channel: usize, window: &[u16]) -> Refu
     if !is_event(phase) {
         return out_of_turn(s);
     }
-    let good = in_range(settings);
+    let good = common_ok(s);
     if !good | !during_ok(s) {
         return Refusal::State;
     }
@@ -124,7 +124,7 @@ pub fn close_check(s: State, store: &[u16]) -> Refusal
     if !is_event(phase) {
         return out_of_turn(s);
     }
-    let good = in_range(settings);
+    let good = common_ok(s);
     if !good | !during_ok(s) {
         return Refusal::State;
     }
@@ -145,7 +145,7 @@ pub fn finish_check(s: State, room: usize) -> Refusal
     if !is_block(phase) {
         return out_of_turn(s);
     }
-    let good = in_range(settings);
+    let good = common_ok(s);
     if !good | !between_ok(s) {
         return Refusal::State;
     }

@@ -170,23 +170,24 @@ module _ (place slot left word : ℕ) (p : Stage) (u : unfinishedBy p ≡ true) 
   judged : Stage → Meaning → Step
   judged q m = stepBy (standing place slot left q) m word (refusalOf (standing place slot left q) m word)
 
-  either : (window raw integral time pedestal event trailer : Bool)
-      → let m = cond window (M.Form F.Window) (cond raw (M.Form F.Raw) (cond integral (M.Form F.Integral) (cond time (M.Form F.Time) (cond pedestal (M.Form F.Pedestal) (cond event (M.Form F.Event) (cond trailer (M.Form F.Trailer) M.Unallowed)))))) in
+  either : (window raw integral time pedestal scalers event trailer : Bool)
+      → let m = cond window (M.Form F.Window) (cond raw (M.Form F.Raw) (cond integral (M.Form F.Integral) (cond time (M.Form F.Time) (cond pedestal (M.Form F.Pedestal) (cond scalers (M.Form F.Scalers) (cond event (M.Form F.Event) (cond trailer (M.Form F.Trailer) M.Unallowed))))))) in
       judged p m ≡ judged P.Items m
   unfolding judged refusalOf firstOf atLimit after
-  either true raw integral time pedestal event trailer = rw u
-  either false true integral time pedestal event trailer = rw u
-  either false false true time pedestal event trailer = rw u
-  either false false false true pedestal event trailer = rw u
-  either false false false false true event trailer = rw u
-  either false false false false false true trailer = rw u
-  either false false false false false false true = rw u
-  either false false false false false false false = rw u
+  either true raw integral time pedestal scalers event trailer = rw u
+  either false true integral time pedestal scalers event trailer = rw u
+  either false false true time pedestal scalers event trailer = rw u
+  either false false false true pedestal scalers event trailer = rw u
+  either false false false false true scalers event trailer = rw u
+  either false false false false false true event trailer = rw u
+  either false false false false false false true trailer = rw u
+  either false false false false false false false true = rw u
+  either false false false false false false false false = rw u
 
   same-step : meaningAt (standing place slot left p) word ≡ meaningIn M.Unallowed inner (read 30 27 word) → isContinuation word ≡ false
       → stepAt (standing place slot left p) word ≡ stepAt (standing place slot left P.Items) word
   unfolding stepAt meaningAt isContinuation judged
-  same-step m d = rw (m, d) (let k = read 30 27 word in either (eqb k 4) (eqb k 6) (eqb k 7) (eqb k 8) (eqb k 10) (eqb k 2) (eqb k 1))
+  same-step m d = rw (m, d) (let k = read 30 27 word in either (eqb k 4) (eqb k 6) (eqb k 7) (eqb k 8) (eqb k 10) (eqb k 12) (eqb k 2) (eqb k 1))
 
   same-check : (words : List ℕ) → meaningAt (standing place slot left p) word ≡ meaningIn M.Unallowed inner (read 30 27 word) → isContinuation word ≡ false
       → checkFrom (standing place slot left p) (word ∷ words) ≡ checkFrom (standing place slot left P.Items) (word ∷ words)

@@ -86,6 +86,7 @@ fn is_behind(scan: Scan, word: u32) -> bool
         Stage::Window(_, _) => false,
         Stage::Raw(_, _) => false,
         Stage::Tail(_) => false,
+        Stage::Scalers(_) => false,
     }
 }
 

@@ -30,6 +30,7 @@ pairedBy P.Items flag = P.Items
 pairedBy (P.Window n odd) flag = cond (leb n 1) P.Items (P.Window (n - 1) odd)
 pairedBy (P.Raw n some) flag = P.Raw (cond (eqb flag 1) 0 (n - 1)) true
 pairedBy (P.Tail n) flag = P.Tail n
+pairedBy (P.Scalers n) flag = P.Scalers n
 
 -- after a pair: the window's pairs are counted down; of type 6 "a flagged pair is the last"
 abbrev pub paired : Scan → ℕ → Stage
@@ -45,12 +46,29 @@ filledBy P.Items = P.Items
 filledBy (P.Window n odd) = P.Window n odd
 filledBy (P.Raw n some) = P.Raw n some
 filledBy (P.Tail n) = P.Tail (n - 1)
+filledBy (P.Scalers n) = P.Scalers n
 
 -- after a filler: one fewer may come
 abbrev pub filled : Scan → Stage
 filled s = filledBy (s .stage)
 
--- "Type 4 has ceil(width/2) pairs, type 6 has 1 to 250."
+abbrev pub scaledBy : Stage → Stage
+scaledBy P.Start = P.Start
+scaledBy P.Head = P.Head
+scaledBy P.Front = P.Front
+scaledBy P.Opened = P.Opened
+scaledBy (P.Timed d) = P.Timed d
+scaledBy P.Items = P.Items
+scaledBy (P.Window n odd) = P.Window n odd
+scaledBy (P.Raw n some) = P.Raw n some
+scaledBy (P.Tail n) = P.Tail n
+scaledBy (P.Scalers n) = P.Scalers (n - 1)
+
+-- after a word of the scalers: one fewer is to come
+abbrev pub scaled : Scan → Stage
+scaled s = scaledBy (s .stage)
+
+-- "Type 4 has ceil(width/2) pairs, type 6 has 1 to 250."; 02: of the scalers "the reader takes the stated count, 0 to 63"
 abbrev pub stageAfter : Scan → Item → Stage
 stageAfter s (I.Block r) = P.Head
 stageAfter s (I.Parameters r) = P.Front
@@ -66,6 +84,8 @@ stageAfter s (I.Time r) = P.Items
 stageAfter s (I.Pedestal r) = P.Items
 stageAfter s (I.Empty r) = P.Tail 0
 stageAfter s (I.Filler r) = filled s
+stageAfter s (I.Scalers r) = P.Scalers (r .count)
+stageAfter s (I.Scaler r) = scaled s
 
 abbrev pub slotAfter : Scan → Item → ℕ
 slotAfter s (I.Block r) = r .slot
@@ -82,6 +102,8 @@ slotAfter s (I.Time r) = s .slot
 slotAfter s (I.Pedestal r) = s .slot
 slotAfter s (I.Empty r) = s .slot
 slotAfter s (I.Filler r) = s .slot
+slotAfter s (I.Scalers r) = s .slot
+slotAfter s (I.Scaler r) = s .slot
 
 -- event headers still to come
 abbrev pub leftAfter : Scan → Item → ℕ
@@ -99,6 +121,8 @@ leftAfter s (I.Time r) = s .left
 leftAfter s (I.Pedestal r) = s .left
 leftAfter s (I.Empty r) = s .left
 leftAfter s (I.Filler r) = s .left
+leftAfter s (I.Scalers r) = s .left
+leftAfter s (I.Scaler r) = s .left
 
 unfoldable pub after : Scan → Item → Scan
 after s x = record { place = onward (s .place); slot = slotAfter s x; left = leftAfter s x; stage = stageAfter s x }

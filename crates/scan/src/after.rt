@@ -5,7 +5,7 @@ ghost use Prim.Native.Nat.{_-_, _%_};
 ghost use lib.Dec.{eqb, leb};
 ghost use Rattle.limits.specs.Limits.{pairsOf};
 ghost use Rattle.items.specs.Items.{itemFrom};
-ghost use Rattle.scan.specs.After.{onward, paired, filled, after};
+ghost use Rattle.scan.specs.After.{onward, paired, filled, scaled, after};
 use crate::Scan;
 use crate::Stage;
 use framing::block_header::BlockHeader;
@@ -82,6 +82,16 @@ fn filler_stage(scan: Scan) -> Stage
     p
 }
 
+fn scaler_stage(scan: Scan) -> Stage
+    ensures { λ r. ⌜ r ≡ scaled scan ⌝ }
+{
+    let p = scan.stage;
+    if let Stage::Scalers(n) = p {
+        return Stage::Scalers(less(n));
+    }
+    p
+}
+
 // Behind the block header: its slot, and the events that it states.
 fn begun(scan: Scan, word: u32) -> Scan
     ensures { λ r. ⌜ r ≡ after scan (itemFrom Form.Block word) ⌝ }
@@ -137,5 +147,7 @@ pub fn scan_after(scan: Scan, form: Form, word: u32) -> Scan
         Form::Pedestal => moved(scan, Stage::Items),
         Form::Empty => moved(scan, Stage::Tail(0)),
         Form::Filler => moved(scan, filler_stage(scan)),
+        Form::Scalers => moved(scan, Stage::Scalers(fields::take(word, 0, 6))),
+        Form::Scaler => moved(scan, scaler_stage(scan)),
     }
 }

@@ -22,6 +22,8 @@ pub enum Stage {
     Raw(u32, bool),
     // Behind the trailer, or a module empty: fillers that may come.
     Tail(u32),
+    // In an event's scalers: words to come.
+    Scalers(u32),
 }
 
 // The place of the next word, from 0 at the block's first; the block's slot; the event headers to come; the stage.

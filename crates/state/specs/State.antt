@@ -1,4 +1,4 @@
--- The state of a run and its ranges: document 01, "One event, one store". Assumes nothing.
+-- The state of a run and its ranges: document 01, "One event, one store"; what is counted stands beside it (document 02). Assumes nothing.
 use Prim.Native.Nat.{ℕ, _+_, _-_, _*_, _^_}
 use mathlib.Core.Bool.{Bool, true, false, not, _&&_, cond}
 use mathlib.Core.List.{List, [], _∷_}
@@ -8,6 +8,8 @@ use Rattle.ground.specs.Tests.{allOf}
 use Rattle.limits.specs.Limits.{mostEvent}
 use Rattle.settings.specs.declared.Settings.{Settings}
 use Rattle.settings.specs.Ranges.{settingsOk}
+use Rattle.scalers.specs.declared.Scalers.{Scalers}
+use Rattle.scalers.specs.Scalers.{groupFrames, nothingCounted, triggered}
 use Rattle.state.specs.declared.Phase.{Phase}
 use Rattle.state.specs.declared.Phase.the-variants.{Idle, Block, Event}
 use Rattle.state.specs.declared.State.{State}
@@ -32,7 +34,8 @@ headWords s = cond (s .parameters) 2 1
 abbrev pub leastEvent : Settings → ℕ
 leastEvent s = 1 + s .times
 
--- "words at least the header words plus, for each event closed, its header and time words, and at most 2 + 12,051 x events closed"
+-- "words at least the header words plus, for each event closed, its header and time words, and at most 2 + 12,051 x events closed"; 02: "An event is then at
+-- most 12,070 words in the state's bound."
 unfoldable pub wordsOk : ℕ → ℕ → ℕ → ℕ → Bool
 wordsOk head event closed words = leb (head + closed * event) words && leb words (2 + closed * mostEvent)
 
@@ -59,9 +62,17 @@ phaseTests Event s = inBlockOk s ∷ ltb (s .closed) (s .events) ∷ eventOk (s 
 unfoldable pub phaseOk : Phase → State → Bool
 phaseOk p s = allOf (phaseTests p s)
 
--- the state keeps its ranges: "settings as above", and those of its phase
+-- 02: "The state holds all this beside 01's fields, in every phase and kept through idle; its part group is under 512."
+unfoldable pub scalersOk : Scalers → Bool
+scalersOk c = ltb (c .part) groupFrames
+
+-- what is no matter of the phase: "settings as above", and what is counted
+unfoldable pub commonOk : State → Bool
+commonOk s = settingsOk (s .settings) && scalersOk (s .scalers)
+
+-- the state keeps its ranges: these, and those of its phase
 unfoldable pub stateOk : State → Bool
-stateOk s = settingsOk (s .settings) && phaseOk (s .phase) s
+stateOk s = commonOk s && phaseOk (s .phase) s
 
 abbrev pub isIdle : Phase → Bool
 isIdle Idle = true
@@ -80,15 +91,16 @@ isEvent Event = true
 
 -- ---- the states that calls give
 
--- idle: all but the settings is zero
-unfoldable pub idle : Settings → State
-idle s = record { settings = s; phase = Idle; block = 0; events = 0; event = 0; time = 0; posted = replicate 16 false; closed = 0; words = 0 }
+-- idle: all but the settings and what is counted is zero
+unfoldable pub idle : Settings → Scalers → State
+idle s c = record { settings = s; phase = Idle; block = 0; events = 0; event = 0; time = 0; posted = replicate 16 false; closed = 0; words = 0; scalers = c }
 
 -- "returns no state": settings out of range stand for it, so that every call refuses it with 10
 unfoldable pub blank : State
 blank =
     idle
     (record { mode = 0; nw = 0; pl = 0; nsb = 0; nsa = 0; limit = 0; thresholds = replicate 16 0; slot = 0; parameters = false; times = 0; multiple = 0 })
+    nothingCounted
 
 -- a block is open
 unfoldable pub withBlock : State → ℕ → ℕ → ℕ → State
@@ -103,9 +115,10 @@ withBlock s number events words =
       posted = replicate 16 false;
       closed = 0;
       words = words;
+      scalers = s .scalers;
     }
 
--- an event is open
+-- an event is open: 02, "a trigger counter counts opened events"
 unfoldable pub withEvent : State → ℕ → ℕ → State
 withEvent s number time =
     record {
@@ -118,6 +131,7 @@ withEvent s number time =
       posted = s .posted;
       closed = s .closed;
       words = s .words;
+      scalers = triggered (s .scalers);
     }
 
 -- a channel is posted
@@ -133,6 +147,7 @@ withMark s posted =
       posted = posted;
       closed = s .closed;
       words = s .words;
+      scalers = s .scalers;
     }
 
 -- the event is closed, at the words then counted
@@ -148,9 +163,26 @@ withClosed s words =
       posted = replicate 16 false;
       closed = s .closed + 1;
       words = words;
+      scalers = s .scalers;
+    }
+
+-- frames, a latch or a reset: only what is counted changes
+unfoldable pub withScalers : State → Scalers → State
+withScalers s c =
+    record {
+      settings = s .settings;
+      phase = s .phase;
+      block = s .block;
+      events = s .events;
+      event = s .event;
+      time = s .time;
+      posted = s .posted;
+      closed = s .closed;
+      words = s .words;
+      scalers = c;
     }
 
 -- a proof that computes opens this file and what it leans on by one name
 unfoldable pub allOpen : Unit {0}
-unfolding blockOk eventOk wordsOk noMarks phaseOk stateOk idle blank withBlock withEvent withMark withClosed Rattle.ground.specs.Tests.allOpen Rattle.limits.specs.Limits.allOpen Rattle.settings.specs.Ranges.allOpen
+unfolding blockOk eventOk wordsOk noMarks phaseOk scalersOk commonOk stateOk idle blank withBlock withEvent withMark withClosed withScalers Rattle.ground.specs.Tests.allOpen Rattle.limits.specs.Limits.allOpen Rattle.settings.specs.Ranges.allOpen Rattle.scalers.specs.Scalers.allOpen
 allOpen = tt

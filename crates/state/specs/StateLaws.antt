@@ -7,31 +7,47 @@ use native.Mathlib.Nat.{add-mul, zero-mul, mul-le-mul}
 use native.Mathlib.Omega.{arith}
 use borrow.Author.Tests.{leb-true, le-leb, ltb-true, lt-ltb, eqb-true}
 use lib.Dec.{leb}
+use Rattle.ground.specs.Tests.{allOf}
 use Rattle.ground.specs.TestsLaws.{and-left, and-right, Every, every, all-of}
 use Rattle.limits.specs.Limits.{mostEvent}
 use Rattle.limits.specs.LimitsLaws.{most-event}
 use Rattle.settings.specs.declared.Settings.{Settings}
 use Rattle.settings.specs.Ranges.{ranges, settingsOk}
+use Rattle.scalers.specs.declared.Scalers.{Scalers}
+use Rattle.scalers.specs.Scalers.{groupFrames, nothingCounted, triggered}
 use Rattle.state.specs.declared.Phase.{Phase}
 use Rattle.state.specs.declared.Phase.the-variants.{Idle, Block, Event}
 use Rattle.state.specs.declared.State.{State}
-use Rattle.state.specs.State.{blockOk, eventOk, headWords, leastEvent, wordsOk, noMarks, inBlockOk, phaseTests, phaseOk, stateOk, isIdle, isBlock, isEvent, idle, blank, withBlock, withEvent, withMark, withClosed}
+use Rattle.state.specs.State.{blockOk, eventOk, headWords, leastEvent, wordsOk, noMarks, inBlockOk, phaseTests, phaseOk, scalersOk, commonOk, stateOk, isIdle, isBlock, isEvent, idle, blank, withBlock, withEvent, withMark, withClosed, withScalers}
 use Rattle.state.specs.CodeLaws.{head-le}
 
 -- ---- what a state in range says, by its phase
 
--- the ranges of a state are those of its settings and of its phase
-pub state-in : (s : State) (p : Phase) → s .phase ≡ p → stateOk s ≡ settingsOk (s .settings) && phaseOk p s
+-- the ranges of a state are those of any phase and of its own
+pub state-in : (s : State) (p : Phase) → s .phase ≡ p → stateOk s ≡ commonOk s && phaseOk p s
 unfolding stateOk
-state-in s p e = ap (λ (q : Phase). settingsOk (s .settings) && phaseOk q s) e
+state-in s p e = ap (λ (q : Phase). commonOk s && phaseOk q s) e
+
+pub state-common : (s : State) → stateOk s ≡ true → commonOk s ≡ true
+unfolding stateOk
+state-common s h = and-left _ (phaseOk (s .phase) s) h
 
 pub state-settings : (s : State) → stateOk s ≡ true → settingsOk (s .settings) ≡ true
-unfolding stateOk
-state-settings s h = and-left _ (phaseOk (s .phase) s) h
+unfolding commonOk
+state-settings s h = and-left _ (scalersOk (s .scalers)) (state-common s h)
+
+pub state-scalers : (s : State) → stateOk s ≡ true → scalersOk (s .scalers) ≡ true
+unfolding commonOk
+state-scalers s h = and-right (settingsOk (s .settings)) _ (state-common s h)
+
+-- the part group is under 512
+pub part-lt : (s : State) → stateOk s ≡ true → s .scalers .part < groupFrames
+unfolding scalersOk
+part-lt s h = ltb-true _ _ (state-scalers s h)
 
 state-tests : (s : State) (p : Phase) → stateOk s ≡ true → s .phase ≡ p → Every (phaseTests p s)
 unfolding stateOk phaseOk
-state-tests s p h e = every (phaseTests p s) (ap (λ (q : Phase). phaseOk q s) (sym e) ∙ and-right (settingsOk (s .settings)) _ h)
+state-tests s p h e = every (phaseTests p s) (ap (λ (q : Phase). phaseOk q s) (sym e) ∙ and-right (commonOk s) _ h)
 
 pub is-idle : (p : Phase) → isIdle p ≡ true → p ≡ Idle
 is-idle Idle h = refl
@@ -147,17 +163,27 @@ trailer-fits s h = omega (arith, words-le s h, most-event)
 
 -- ---- the states that calls give are in their ranges
 
-state-ok : (s : State) → settingsOk (s .settings) ≡ true → (p : Phase) → s .phase ≡ p → Every (phaseTests p s) → stateOk s ≡ true
+state-ok : (s : State) → commonOk s ≡ true → (p : Phase) → s .phase ≡ p → Every (phaseTests p s) → stateOk s ≡ true
 unfolding stateOk phaseOk
 state-ok s h p e t = rw (h, ap (λ (q : Phase). phaseOk q s) e) (all-of (phaseTests p s) t)
 
-pub idle-kept : (s : Settings) → settingsOk s ≡ true → stateOk (idle s) ≡ true
-unfolding idle noMarks
-idle-kept s h = state-ok (idle s) h Idle refl (refl, (refl, (refl, (refl, (refl, (refl, (refl, tt)))))))
+pub idle-kept : (s : Settings) (c : Scalers) → settingsOk s ≡ true → scalersOk c ≡ true → stateOk (idle s c) ≡ true
+unfolding idle noMarks commonOk
+idle-kept s c h k = state-ok (idle s c) (rw (h, k)) Idle refl (refl, (refl, (refl, (refl, (refl, (refl, (refl, tt)))))))
+
+-- nothing counted is within its range
+pub none-counted : scalersOk nothingCounted ≡ true
+unfolding scalersOk nothingCounted
+none-counted = refl
+
+-- one event more keeps the part group
+pub trigger-kept : (c : Scalers) → scalersOk (triggered c) ≡ scalersOk c
+unfolding scalersOk triggered
+trigger-kept c = refl
 
 -- what stands for no state is in no range
 pub blank-out : stateOk blank ≡ false
-unfolding stateOk blank idle settingsOk ranges
+unfolding stateOk commonOk blank idle settingsOk ranges
 blank-out = refl
 
 -- a block's head are its first words
@@ -182,26 +208,26 @@ words-more head event closed words n k l h =
 
 module _ (s : State) (ok : stateOk s ≡ true) where
   pub block-kept : (number events : ℕ) → isIdle (s .phase) ≡ true → blockOk number events ≡ true → stateOk (withBlock s number events (s .words + headWords (s .settings))) ≡ true
-  unfolding withBlock noMarks
+  unfolding withBlock noMarks commonOk
   block-kept number events i named =
-      state-ok (withBlock s number events (s .words + headWords (s .settings))) (state-settings s ok) Block refl (
+      state-ok (withBlock s number events (s .words + headWords (s .settings))) (state-common s ok) Block refl (
         rw named (head-kept (s .settings .parameters) (leastEvent (s .settings)) (s .words) (idle-says s ok i .words)),
         (le-leb 0 events (omega arith), (refl, (refl, (refl, tt)))),
       )
 
   pub event-kept : (number time : ℕ) → isBlock (s .phase) ≡ true → s .closed < s .events → eventOk number time ≡ true → stateOk (withEvent s number time) ≡ true
-  unfolding withEvent
+  unfolding withEvent commonOk
   event-kept number time i h named =
-      state-ok (withEvent s number time) (state-settings s ok) Event refl (state-tests s Block ok (is-block _ i) .0, (lt-ltb _ _ h, (named, tt)))
+      state-ok (withEvent s number time) (rw (state-settings s ok, trigger-kept (s .scalers)) (state-scalers s ok)) Event refl (state-tests s Block ok (is-block _ i) .0, (lt-ltb _ _ h, (named, tt)))
 
   pub mark-kept : (posted : List Bool) → isEvent (s .phase) ≡ true → stateOk (withMark s posted) ≡ true
-  unfolding withMark
+  unfolding withMark commonOk
   mark-kept posted i =
       let p = is-event _ i in
-      state-ok (withMark s posted) (state-settings s ok) Event p (state-tests s Event ok p)
+      state-ok (withMark s posted) (state-common s ok) Event p (state-tests s Event ok p)
 
   pub close-kept : (n : ℕ) → isEvent (s .phase) ≡ true → leastEvent (s .settings) ≤ n → n ≤ mostEvent → stateOk (withClosed s (s .words + n)) ≡ true
-  unfolding withClosed noMarks
+  unfolding withClosed noMarks commonOk
   close-kept n i k l =
       let t = state-tests s Event ok (is-event _ i) in
       let head = headWords (s .settings) in
@@ -209,7 +235,17 @@ module _ (s : State) (ok : stateOk s ≡ true) where
       let numbers : blockOk (s .block) (s .events) ≡ true = and-left _ (wordsOk head event (s .closed) (s .words)) (t .0) in
       let words = and-right (blockOk (s .block) (s .events)) _ (t .0) in
       let less : s .closed < s .events = ltb-true _ _ (t .1 .0) in
-      state-ok (withClosed s (s .words + n)) (state-settings s ok) Block refl (
+      state-ok (withClosed s (s .words + n)) (state-common s ok) Block refl (
         rw numbers (words-more head event (s .closed) (s .words) n k l words),
         (le-leb (s .closed + 1) (s .events) (omega arith), (refl, (refl, (refl, tt)))),
       )
+
+  -- only what is counted changes, in any phase
+  pub scalers-kept : (c : Scalers) → scalersOk c ≡ true → stateOk (withScalers s c) ≡ true
+  unfolding withScalers commonOk stateOk phaseOk
+  scalers-kept c k = rw (state-settings s ok, k) (go (s .phase) refl)
+    where
+      go : (p : Phase) → s .phase ≡ p → allOf (phaseTests p (withScalers s c)) ≡ true
+      go Idle e = all-of (phaseTests Idle s) (state-tests s Idle ok e)
+      go Block e = all-of (phaseTests Block s) (state-tests s Block ok e)
+      go Event e = all-of (phaseTests Event s) (state-tests s Event ok e)

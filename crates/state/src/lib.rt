@@ -4,6 +4,7 @@ ghost use Rattle.state.specs.State.{idle, blank};
 
 pub mod ranges;
 
+use scalers::Scalers;
 use settings::Settings;
 
 // No block is open, a block is open, an event of it is open.
@@ -13,7 +14,8 @@ pub enum Phase {
     Event,
 }
 
-// `events` are those the block is to hold, `closed` those it holds so far, `words` the words written to it so far.
+// `events` are those the block is to hold, `closed` those it holds so far, `words` the words written to it so far. What is
+// counted stands beside all that, and stays when a block ends.
 pub struct State {
     pub settings: Settings,
     pub phase: Phase,
@@ -24,11 +26,12 @@ pub struct State {
     pub posted: [bool; 16],
     pub closed: u32,
     pub words: usize,
+    pub scalers: Scalers,
 }
 
-// No block is open: all but the settings is zero.
-pub fn idle_state(settings: Settings) -> State
-    ensures { λ r. ⌜ r ≡ idle settings ⌝ }
+// No block is open: all but the settings and what is counted is zero.
+pub fn idle_state(settings: Settings, scalers: Scalers) -> State
+    ensures { λ r. ⌜ r ≡ idle settings scalers ⌝ }
 {
     State {
         settings,
@@ -40,6 +43,7 @@ pub fn idle_state(settings: Settings) -> State
         posted: [false; 16],
         closed: 0,
         words: 0,
+        scalers,
     }
 }
 
@@ -47,7 +51,7 @@ pub fn idle_state(settings: Settings) -> State
 pub fn no_state() -> State
     ensures { λ r. ⌜ r ≡ blank ⌝ }
 {
-    idle_state(Settings {
+    let settings = Settings {
         mode: 0,
         nw: 0,
         pl: 0,
@@ -59,5 +63,6 @@ pub fn no_state() -> State
         parameters: false,
         times: 0,
         multiple: 0,
-    })
+    };
+    idle_state(settings, scalers::none())
 }

@@ -3,12 +3,13 @@ ghost use mathlib.Core.Path.{_≡_};
 ghost use mathlib.Core.Bool.{cond};
 ghost use Prim.Native.Nat.{_+_};
 ghost use Rattle.state.specs.declared.Phase.the-variants.{Idle, Block, Event};
-ghost use Rattle.state.specs.State.{blockOk, eventOk, wordsOk, noMarks, inBlockOk, phaseOk, stateOk, isIdle, isBlock, isEvent};
+ghost use Rattle.state.specs.State.{blockOk, eventOk, wordsOk, noMarks, inBlockOk, phaseOk, commonOk, stateOk, isIdle, isBlock, isEvent};
 use crate::Phase;
 use crate::State;
 use framing::block_header::BlockHeader;
 use framing::event_header::EventHeader;
 use framing::trigger_time_high::TriggerTimeHigh;
+use scalers::GROUP;
 
 // A block's number and events are within refusal 8's ranges.
 pub fn block_ok(number: u32, events: u32) -> bool
@@ -112,12 +113,21 @@ fn phase_ok(s: State) -> bool
     }
 }
 
+// The settings, and what is counted: the ranges that are no matter of the phase.
+pub fn common_ok(s: State) -> bool
+    ensures { λ r. ⌜ r ≡ commonOk s ⌝ }
+{
+    let settings = s.settings;
+    let scalers = s.scalers;
+    let good = settings::in_range(settings);
+    good & ((scalers.part as usize) < GROUP)
+}
+
 // The state keeps its ranges.
 pub fn state_ok(s: State) -> bool
     ensures { λ r. ⌜ r ≡ stateOk s ⌝ }
 {
-    let settings = s.settings;
-    let good = settings::in_range(settings);
+    let good = common_ok(s);
     let phase = phase_ok(s);
     good & phase
 }

@@ -21,7 +21,8 @@ fn put_byte(text: &mut [u8], at: usize, b: u8) -> usize
     if at < FARTHEST { at + 1 } else { at }
 }
 
-fn put_bytes(text: &mut [u8], at: usize, s: &[u8]) -> usize
+// Bytes as they are: a line's name, or its end.
+pub fn put_bytes(text: &mut [u8], at: usize, s: &[u8]) -> usize
     ensures { λ r. ⌜ (now (text .exit), r) ≡ put (now (text .entry), at) (now (s .entry)) ⌝ }
 {
     let mut i = 0;
@@ -33,8 +34,8 @@ fn put_bytes(text: &mut [u8], at: usize, s: &[u8]) -> usize
     k
 }
 
-// Written aside, where it has room.
-fn put_cell(text: &mut [u8], at: usize, dash: bool, n: u64) -> usize
+// A cell behind its tab, written aside, where it has room.
+pub fn put_cell(text: &mut [u8], at: usize, dash: bool, n: u64) -> usize
     ensures { λ r. ⌜ (now (text .exit), r) ≡ put (now (text .entry), at) (9 ∷ cellText (cellOf dash n)) ⌝ }
 {
     let cell = written::cell(dash, n);

@@ -2,6 +2,7 @@
 -- learns from the function's own `ensures` (`Reads.Learnt`, of the arguments, the answer `r`, and the arguments as the call leaves them). Assumes nothing.
 use Prim.Native.Nat.{ℕ}
 use mathlib.Core.Path.{_≡_}
+use mathlib.Core.Bool.{Bool, true, false}
 use mathlib.Core.List.{List}
 use contract.Lifetimes.{Lfts}
 use denote.Ref.{RefT, now}
@@ -11,11 +12,13 @@ use Rattle.find.specs.declared.FindAnswer.{FindAnswer}
 use Rattle.find.specs.Call.{FindSays}
 use Rattle.writer.proofs as writer
 use Rattle.closing.proofs as closing
+use Rattle.counting.proofs as counting
 use Rattle.state.specs.declared.State.{State}
 use Rattle.writer.specs.declared.Answer.{Answer}
 use Rattle.writer.specs.declared.Finished.{Finished}
 use Rattle.writer.specs.Calls.{SetUpSays, OpenBlockSays, OpenEventSays, PostSays, FinishSays}
 use Rattle.closing.specs.Closing.{CloseSays}
+use Rattle.counting.specs.Counting.{CountSays, LatchSays, ResetSays}
 use Rattle.scan.proofs as scan
 use Rattle.reader.proofs as reader
 use Rattle.scan.specs.declared.Scan.{Scan}
@@ -35,10 +38,12 @@ use Rattle.rawitems.specs.Pairs.{partOf}
 use Rattle.records.specs.Answers.{NextSays}
 use Rattle.host.proofs as host
 use Rattle.hostcheck.proofs as hostcheck
+use Rattle.hostcount.proofs as hostcount
 use Rattle.hostfind.proofs as hostfind
 use Rattle.hostread.proofs as hostread
 use Rattle.bytecheck.specs.Check.{checkNumber}
 use Rattle.host.specs.Face.{SetUpFace, OpenBlockFace, OpenEventFace, PostFace, CloseFace, FinishFace}
+use Rattle.hostcount.specs.Face.{CountFace, LatchFace, ResetFace}
 use Rattle.hostfind.specs.Found.{FindFace}
 use Rattle.reading.specs.Reading.{NextFace}
 use Rattle.listing.proofs as listing
@@ -68,13 +73,23 @@ pub post-tied : (κs : Lfts 2) (state : State) (store store′ : Reference) (cha
     → writer.post.Reads.Learnt κs (state, (store, (channel, (window, tt)))) r (state, (store′, (channel, (window, tt)))) → PostSays state (now store) channel (now window) r (now store′)
 post-tied κs state store store′ channel window r p = p
 
-pub close-tied : (κs : Lfts 2) (state : State) (store words words′ : Reference) (r : Answer)
-    → closing.close.Reads.Learnt κs (state, (store, (words, tt))) r (state, (store, (words′, tt))) → CloseSays state (now store) (now words) r (now words′)
-close-tied κs state store words words′ r p = p
+pub close-tied : (κs : Lfts 2) (state : State) (store words words′ : Reference) (asked : Bool) (r : Answer)
+    → closing.close.Reads.Learnt κs (state, (store, (words, (asked, tt)))) r (state, (store, (words′, (asked, tt)))) → CloseSays state (now store) (now words) asked r (now words′)
+close-tied κs state store words words′ asked r p = p
 
 pub finish-tied : (κs : Lfts 1) (state : State) (words words′ : Reference) (r : Finished)
     → writer.finish.Reads.Learnt κs (state, (words, tt)) r (state, (words′, tt)) → FinishSays state (now words) r (now words′)
 finish-tied κs state words words′ r p = p
+
+pub count-tied : (κs : Lfts 1) (state : State) (samples : Reference) (r : Answer)
+    → counting.count.Reads.Learnt κs (state, (samples, tt)) r (state, (samples, tt)) → CountSays state (now samples) r
+count-tied κs state samples r p = p
+
+pub latch-tied : (state : State) (r : Answer) → counting.latch.Reads.Learnt tt (state, tt) r (state, tt) → LatchSays state r
+latch-tied state r p = p
+
+pub reset-tied : (state : State) (r : Answer) → counting.reset.Reads.Learnt tt (state, tt) r (state, tt) → ResetSays state r
+reset-tied state r p = p
 
 pub find-tied : (κs : Lfts 1) (settings : Settings) (channel : ℕ) (window : Reference) (r : FindAnswer)
     → find.find.Reads.Learnt κs (settings, (channel, (window, tt))) r (settings, (channel, (window, tt))) → FindSays settings channel (now window) r
@@ -101,12 +116,29 @@ pub fadc250-post-tied : (κs : Lfts 3) (state state′ store store′ : Referenc
 fadc250-post-tied κs state state′ store store′ channel window r p = p
 
 pub fadc250-close-tied : (κs : Lfts 3) (state state′ store words words′ : Reference) (r : ℕ)
-    → host.fadc250_close.Reads.Learnt κs (state, (store, (words, tt))) r (state′, (store, (words′, tt))) → CloseFace (now state) (now store) (now words) r (now state′) (now words′)
+    → host.fadc250_close.Reads.Learnt κs (state, (store, (words, tt))) r (state′, (store, (words′, tt))) → CloseFace (now state) (now store) (now words) false r (now state′) (now words′)
 fadc250-close-tied κs state state′ store words words′ r p = p
+
+pub fadc250-close-with-scalers-tied : (κs : Lfts 3) (state state′ store words words′ : Reference) (r : ℕ)
+    → host.fadc250_close_with_scalers.Reads.Learnt κs (state, (store, (words, tt))) r (state′, (store, (words′, tt)))
+    → CloseFace (now state) (now store) (now words) true r (now state′) (now words′)
+fadc250-close-with-scalers-tied κs state state′ store words words′ r p = p
 
 pub fadc250-finish-tied : (κs : Lfts 2) (state state′ words words′ : Reference) (r : ℕ)
     → host.fadc250_finish.Reads.Learnt κs (state, (words, tt)) r (state′, (words′, tt)) → FinishFace (now state) (now words) r (now state′) (now words′)
 fadc250-finish-tied κs state state′ words words′ r p = p
+
+pub fadc250-count-tied : (κs : Lfts 2) (state state′ frames : Reference) (r : ℕ)
+    → hostcount.fadc250_count.Reads.Learnt κs (state, (frames, tt)) r (state′, (frames, tt)) → CountFace (now state) (now frames) r (now state′)
+fadc250-count-tied κs state state′ frames r p = p
+
+pub fadc250-latch-tied : (κs : Lfts 1) (state state′ : Reference) (r : ℕ)
+    → hostcount.fadc250_latch.Reads.Learnt κs (state, tt) r (state′, tt) → LatchFace (now state) r (now state′)
+fadc250-latch-tied κs state state′ r p = p
+
+pub fadc250-reset-tied : (κs : Lfts 1) (state state′ : Reference) (r : ℕ)
+    → hostcount.fadc250_reset.Reads.Learnt κs (state, tt) r (state′, tt) → ResetFace (now state) r (now state′)
+fadc250-reset-tied κs state state′ r p = p
 
 pub fadc250-find-tied : (κs : Lfts 3) (settings : Reference) (channel : ℕ) (window out out′ : Reference) (r : ℕ)
     → hostfind.fadc250_find.Reads.Learnt κs (settings, (channel, (window, (out, tt)))) r (settings, (channel, (window, (out′, tt))))

@@ -17,6 +17,8 @@ use Rattle.framing.proofs.empty.ModuleEmpty as ModuleEmpty
 use Rattle.framing.proofs.event_header.EventHeader as EventHeader
 use Rattle.framing.proofs.filler.Filler as Filler
 use Rattle.framing.proofs.parameters.Parameters as Parameters
+use Rattle.framing.proofs.scaler.ScalerWord as ScalerWord
+use Rattle.framing.proofs.scalers.ScalerHeader as ScalerHeader
 use Rattle.framing.proofs.trailer.BlockTrailer as BlockTrailer
 use Rattle.framing.proofs.trigger_time.TriggerTime as TriggerTime
 use Rattle.framing.proofs.trigger_time_high.TriggerTimeHigh as TriggerTimeHigh
@@ -41,12 +43,16 @@ use Rattle.pulse.proofs as pulse
 use Rattle.modes.proofs as modes
 use Rattle.channel.proofs as channel
 use Rattle.rows.proofs as rows
+use Rattle.tail.proofs as tail
 use Rattle.event.proofs as event
+use Rattle.scalers.proofs as scalers
 use Rattle.state.proofs as state
 use Rattle.block.proofs as block
 use Rattle.refusing.proofs as refusing
 use Rattle.writer.proofs as writer
 use Rattle.closing.proofs as closing
+use Rattle.counting.proofs as counting
+use Rattle.counting.specs.CountingLaws as counted
 use Rattle.closing.specs.ClosingLaws as closed
 use Rattle.writer.specs.UniqueLaws as W
 use Rattle.scan.proofs as scan
@@ -65,9 +71,11 @@ use Rattle.stretches.proofs as stretches
 use Rattle.bytecheck.proofs as bytecheck
 use Rattle.host.proofs as host
 use Rattle.hostcheck.proofs as hostcheck
+use Rattle.hostcount.proofs as hostcount
 use Rattle.hostfind.proofs as hostfind
 use Rattle.hostread.proofs as hostread
 use Rattle.host.specs.UniqueLaws as H
+use Rattle.hostcount.specs.UniqueLaws as C
 use Rattle.hostfind.specs.UniqueLaws as found
 use Rattle.written.proofs as written
 use Rattle.text.proofs as text
@@ -209,6 +217,32 @@ parameters-is-unique κs a r s u v p q = by-equation p q
 
 pub parameters-fixed-unique : Unique Parameters.fixed.ended Parameters.fixed.Reads.Learnt
 parameters-fixed-unique κs a r s u v p q = by-equation p q
+
+-- framing::scaler
+pub scaler-fits-unique : Unique ScalerWord.fits.ended ScalerWord.fits.Reads.Learnt
+scaler-fits-unique κs a r s u v p q = by-equation p q
+
+pub scaler-build-unique : Unique ScalerWord.build.ended ScalerWord.build.Reads.Learnt
+scaler-build-unique κs a r s u v p q = by-equation p q
+
+pub scaler-take-apart-unique : Unique ScalerWord.take_apart.ended ScalerWord.take_apart.Reads.Learnt
+scaler-take-apart-unique κs a r s u v p q = by-equation p q
+
+-- framing::scalers
+pub scalers-fits-unique : Unique ScalerHeader.fits.ended ScalerHeader.fits.Reads.Learnt
+scalers-fits-unique κs a r s u v p q = by-equation p q
+
+pub scalers-build-unique : Unique ScalerHeader.build.ended ScalerHeader.build.Reads.Learnt
+scalers-build-unique κs a r s u v p q = by-equation p q
+
+pub scalers-take-apart-unique : Unique ScalerHeader.take_apart.ended ScalerHeader.take_apart.Reads.Learnt
+scalers-take-apart-unique κs a r s u v p q = by-equation p q
+
+pub scalers-is-unique : Unique ScalerHeader.is.ended ScalerHeader.is.Reads.Learnt
+scalers-is-unique κs a r s u v p q = by-equation p q
+
+pub scalers-fixed-unique : Unique ScalerHeader.fixed.ended ScalerHeader.fixed.Reads.Learnt
+scalers-fixed-unique κs a r s u v p q = by-equation p q
 
 -- framing::trailer
 pub trailer-fits-unique : Unique BlockTrailer.fits.ended BlockTrailer.fits.Reads.Learnt
@@ -477,9 +511,29 @@ lent-unique κs a r s u v p q = by-equation p q
 pub rows-ok-unique : Unique rows.rows_ok.ended rows.rows_ok.Reads.Learnt
 rows-ok-unique κs a r s u v p q = by-equation p q
 
+-- tail
+pub put-tail-unique : Unique tail.put_tail.ended tail.put_tail.Reads.Learnt
+put-tail-unique κs a r s u v p q = by-writing (u .1) p q
+
 -- event
 pub put-event-unique : Unique event.put_event.ended event.put_event.Reads.Learnt
 put-event-unique κs a r s u v p q = by-writing (u .1) p q
+
+-- scalers
+pub no-scalers-unique : Unique scalers.none.ended scalers.none.Reads.Learnt
+no-scalers-unique κs a r s u v p q = by-equation p q
+
+pub trigger-unique : Unique scalers.trigger.ended scalers.trigger.Reads.Learnt
+trigger-unique κs a r s u v p q = by-equation p q
+
+pub scalers-latch-unique : Unique scalers.latch.ended scalers.latch.Reads.Learnt
+scalers-latch-unique κs a r s u v p q = by-equation p q
+
+pub scalers-reset-unique : Unique scalers.reset.ended scalers.reset.Reads.Learnt
+scalers-reset-unique κs a r s u v p q = by-equation p q
+
+pub scalers-count-unique : Unique scalers.count.ended scalers.count.Reads.Learnt
+scalers-count-unique κs a r s u v p q = by-equation p q
 
 -- state
 pub idle-state-unique : Unique state.idle_state.ended state.idle_state.Reads.Learnt
@@ -496,6 +550,9 @@ event-ok-unique κs a r s u v p q = by-equation p q
 
 pub head-words-unique : Unique state.ranges.head_words.ended state.ranges.head_words.Reads.Learnt
 head-words-unique κs a r s u v p q = by-equation p q
+
+pub common-ok-unique : Unique state.ranges.common_ok.ended state.ranges.common_ok.Reads.Learnt
+common-ok-unique κs a r s u v p q = by-equation p q
 
 pub idle-ok-unique : Unique state.ranges.idle_ok.ended state.ranges.idle_ok.Reads.Learnt
 idle-ok-unique κs a r s u v p q = by-equation p q
@@ -558,10 +615,20 @@ pub post-unique : Unique writer.post.ended writer.post.Reads.Learnt
 post-unique κs a r s u v p q = let e = W.post-unique _ _ _ _ _ _ _ _ p q in (e .0, λ i. (tt, (e .1 i, u .1 .1)))
 
 pub close-unique : Unique closing.close.ended closing.close.Reads.Learnt
-close-unique κs a r s u v p q = let e = closed.close-unique _ _ _ _ _ _ _ p q in (e .0, λ i. (tt, (tt, (e .1 i, tt))))
+close-unique κs a r s u v p q = let e = closed.close-unique _ _ _ _ _ _ _ _ p q in (e .0, λ i. (tt, (tt, (e .1 i, u .1 .1 .1))))
 
 pub finish-unique : Unique writer.finish.ended writer.finish.Reads.Learnt
 finish-unique κs a r s u v p q = let e = W.finish-unique _ _ _ _ _ _ p q in (e .0, λ i. (tt, (e .1 i, tt)))
+
+-- counting
+pub count-unique : Unique counting.count.ended counting.count.Reads.Learnt
+count-unique κs a r s u v p q = (counted.count-unique _ _ _ _ p q, refl)
+
+pub latch-unique : Unique counting.latch.ended counting.latch.Reads.Learnt
+latch-unique κs a r s u v p q = (counted.latch-unique _ _ _ p q, refl)
+
+pub reset-unique : Unique counting.reset.ended counting.reset.Reads.Learnt
+reset-unique κs a r s u v p q = (counted.reset-unique _ _ _ p q, refl)
 
 -- ---- reading
 
@@ -684,6 +751,9 @@ phase-number-unique κs a r s u v p q = by-equation p q
 pub put-head-unique : Unique numbers.store.put_head.ended numbers.store.put_head.Reads.Learnt
 put-head-unique κs a r s u v p q = (refl, λ i. (one-result p q i, u .1))
 
+pub put-scalers-unique : Unique numbers.store.put_scalers.ended numbers.store.put_scalers.Reads.Learnt
+put-scalers-unique κs a r s u v p q = (refl, λ i. (one-result p q i, u .1))
+
 pub put-state-unique : Unique numbers.store.put_state.ended numbers.store.put_state.Reads.Learnt
 put-state-unique κs a r s u v p q = (refl, λ i. (one-result p q i, u .1))
 
@@ -701,11 +771,25 @@ pub fadc250-post-unique : Unique host.fadc250_post.ended host.fadc250_post.Reads
 fadc250-post-unique κs a r s u v p q = let e = H.post-face-unique _ _ _ _ _ _ _ _ _ _ p q in (e .0, λ i. (e .1 .0 i, (e .1 .1 i, u .1 .1)))
 
 pub fadc250-close-unique : Unique host.fadc250_close.ended host.fadc250_close.Reads.Learnt
-fadc250-close-unique κs a r s u v p q = let e = H.close-face-unique _ _ _ _ _ _ _ _ _ p q in (e .0, λ i. (e .1 .0 i, (tt, (e .1 .1 i, tt))))
+fadc250-close-unique κs a r s u v p q = let e = H.close-face-unique _ _ _ _ _ _ _ _ _ _ p q in (e .0, λ i. (e .1 .0 i, (tt, (e .1 .1 i, tt))))
+
+pub fadc250-close-with-scalers-unique : Unique host.fadc250_close_with_scalers.ended host.fadc250_close_with_scalers.Reads.Learnt
+fadc250-close-with-scalers-unique κs a r s u v p q = let e = H.close-face-unique _ _ _ _ _ _ _ _ _ _ p q in (e .0, λ i. (e .1 .0 i, (tt, (e .1 .1 i, tt))))
 
 pub fadc250-finish-unique : Unique host.fadc250_finish.ended host.fadc250_finish.Reads.Learnt
 fadc250-finish-unique κs a r s u v p q = let e = H.finish-face-unique _ _ _ _ _ _ _ _ p q in (e .0, λ i. (e .1 .0 i, (e .1 .1 i, tt)))
 
+-- hostcount
+pub fadc250-count-unique : Unique hostcount.fadc250_count.ended hostcount.fadc250_count.Reads.Learnt
+fadc250-count-unique κs a r s u v p q = let e = C.count-face-unique _ _ _ _ _ _ p q in (e .0, λ i. (e .1 i, u .1))
+
+pub fadc250-latch-unique : Unique hostcount.fadc250_latch.ended hostcount.fadc250_latch.Reads.Learnt
+fadc250-latch-unique κs a r s u v p q = let e = C.latch-face-unique _ _ _ _ _ p q in (e .0, λ i. (e .1 i, tt))
+
+pub fadc250-reset-unique : Unique hostcount.fadc250_reset.ended hostcount.fadc250_reset.Reads.Learnt
+fadc250-reset-unique κs a r s u v p q = let e = C.reset-face-unique _ _ _ _ _ p q in (e .0, λ i. (e .1 i, tt))
+
+-- hostfind
 pub fadc250-find-unique : Unique hostfind.fadc250_find.ended hostfind.fadc250_find.Reads.Learnt
 fadc250-find-unique κs a r s u v p q = let e = found.find-face-unique _ _ _ _ _ _ _ _ p q in (e .0, λ i. (tt, (tt, (tt, (e .1 i, tt)))))
 
@@ -719,6 +803,12 @@ pub cell-unique : Unique written.cell.ended written.cell.Reads.Learnt
 cell-unique κs a r s u v p q = let e = one-result (p .0) (q .0) in (λ i. record { bytes = e i .0; count = e i .1 }, refl)
 
 -- text
+pub put-bytes-unique : Unique text.put_bytes.ended text.put_bytes.Reads.Learnt
+put-bytes-unique κs a r s u v p q = by-page (u .1) p q
+
+pub put-cell-unique : Unique text.put_cell.ended text.put_cell.Reads.Learnt
+put-cell-unique κs a r s u v p q = by-page (u .1) p q
+
 pub put-line-unique : Unique text.put_line.ended text.put_line.Reads.Learnt
 put-line-unique κs a r s u v p q = by-page (u .1) p q
 

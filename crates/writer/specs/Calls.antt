@@ -1,18 +1,18 @@
 -- The calls but for the close: what each answers, writes and leaves. Document 01, "One event, one store". Assumes nothing.
 use Prim.Native.Nat.{ℕ, _+_, _*_}
 use mathlib.Core.Path.{_≡_}
-use mathlib.Core.Bool.{true, cond}
+use mathlib.Core.Bool.{true}
 use mathlib.Core.List.{List}
 use lib.ListN.{length, set}
-use lib.Dec.{eqb}
 use Rattle.ground.specs.Splice.{splice}
 use Rattle.settings.specs.declared.Settings.{Settings}
 use Rattle.refusals.specs.Refusal.{numberOf, ifAccepted}
 use Rattle.items.specs.Items.{wordsOf}
 use Rattle.block.specs.Block.{blockItems, endItems}
+use Rattle.scalers.specs.Scalers.{nothingCounted}
 use Rattle.state.specs.declared.State.{State}
-use Rattle.state.specs.State.{idle, blank, withBlock, withEvent, withMark, withClosed}
-use Rattle.refusing.specs.Tables.{setUpNumber, openBlockNumber, openEventNumber, postNumber, closingItems, closeNumber, finishNumber}
+use Rattle.state.specs.State.{idle, blank, withBlock, withEvent, withMark}
+use Rattle.refusing.specs.Tables.{setUpNumber, openBlockNumber, openEventNumber, postNumber, finishNumber}
 use Rattle.writer.specs.declared.Answer.{Answer}
 use Rattle.writer.specs.declared.Finished.{Finished}
 
@@ -21,7 +21,7 @@ use Rattle.writer.specs.declared.Finished.{Finished}
 -- "Set up can give only 1, and returns no state."
 pub record SetUpSays (s : Settings) (r : Answer) : Type 0 where
   pub refusal : numberOf (r .refusal) ≡ setUpNumber s
-  pub state : r .state ≡ ifAccepted (setUpNumber s) (idle s) blank
+  pub state : r .state ≡ ifAccepted (setUpNumber s) (idle s nothingCounted) blank
 
 -- ---- open a block
 
@@ -55,10 +55,11 @@ pub record PostSays (s : State) (store : List ℕ) (c : ℕ) (w : List ℕ) (r :
 
 -- ---- finish the block
 
--- "Finishing writes the trailer and the fewest fillers to the multiple, returns to idle and answers the block's length in words."
+-- "Finishing writes the trailer and the fewest fillers to the multiple, returns to idle and answers the block's length in words."; 02: what is
+-- counted is "kept through idle"
 pub record FinishSays (s : State) (words : List ℕ) (r : Finished) (words′ : List ℕ) : Type 0 where
   pub refusal : numberOf (r .refusal) ≡ finishNumber s (length words)
-  pub state : r .state ≡ ifAccepted (finishNumber s (length words)) (idle (s .settings)) s
+  pub state : r .state ≡ ifAccepted (finishNumber s (length words)) (idle (s .settings) (s .scalers)) s
   pub size : r .length ≡ ifAccepted (finishNumber s (length words)) (s .words + length (endItems (s .settings) (s .words))) 0
   pub buffer : words′
       ≡ ifAccepted (finishNumber s (length words)) (splice words (s .words) (wordsOf (endItems (s .settings) (s .words)))) words

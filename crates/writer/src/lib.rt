@@ -26,7 +26,7 @@ pub fn set_up(settings: Settings) -> Answer
     ensures { λ r. ⌜ SetUpSays settings r ⌝ }
 {
     if settings::in_range(settings) {
-        let state = state::idle_state(settings);
+        let state = state::idle_state(settings, scalers::none());
         return Answer {
             refusal: Refusal::None,
             state,
@@ -46,6 +46,7 @@ pub fn open_block(state: State, words: &mut [u32], number: u32, events: u32) -> 
     let refusal = refusing::open_block_check(state, words.len(), number, events);
     if refusals::accepted(refusal) {
         let settings = state.settings;
+        let scalers = state.scalers;
         let next = block::put_block(words, state.words, settings, number, events);
         let opened = State {
             settings,
@@ -57,6 +58,7 @@ pub fn open_block(state: State, words: &mut [u32], number: u32, events: u32) -> 
             posted: [false; 16],
             closed: 0,
             words: next,
+            scalers,
         };
         return Answer {
             refusal,
@@ -66,7 +68,7 @@ pub fn open_block(state: State, words: &mut [u32], number: u32, events: u32) -> 
     Answer { refusal, state }
 }
 
-// Opens an event: writes nothing.
+// Opens an event: writes nothing, and counts as one trigger.
 pub fn open_event(state: State, number: u32, time: u64) -> Answer
     ensures { λ r. ⌜ OpenEventSays state number time r ⌝ }
 {
@@ -74,6 +76,7 @@ pub fn open_event(state: State, number: u32, time: u64) -> Answer
     if refusals::accepted(refusal) {
         let settings = state.settings;
         let posted = state.posted;
+        let scalers = scalers::trigger(state.scalers);
         let opened = State {
             settings,
             phase: Phase::Event,
@@ -84,6 +87,7 @@ pub fn open_event(state: State, number: u32, time: u64) -> Answer
             posted,
             closed: state.closed,
             words: state.words,
+            scalers,
         };
         return Answer {
             refusal,
@@ -112,15 +116,16 @@ pub fn post(state: State, store: &mut [u16], channel: usize, window: &[u16]) -> 
     Answer { refusal, state }
 }
 
-// Finishes the block: writes the trailer and the fewest fillers, and answers the block's length.
+// Finishes the block: writes the trailer and the fewest fillers, and answers the block's length. What is counted stays.
 pub fn finish(state: State, words: &mut [u32]) -> Finished
     ensures { λ r. ⌜ FinishSays state (now (words .entry)) r (now (words .exit)) ⌝ }
 {
     let refusal = refusing::finish_check(state, words.len());
     if refusals::accepted(refusal) {
         let settings = state.settings;
+        let scalers = state.scalers;
         let length = block::put_end(words, state.words, settings);
-        let idle = state::idle_state(settings);
+        let idle = state::idle_state(settings, scalers);
         return Finished {
             refusal,
             state: idle,

@@ -15,6 +15,7 @@ fn ends() -> [(&'static str, usize, Vec<u32>); LIMIT_CASES as usize] {
     let (filler, other) = (words::filler(SLOT), words::filler(SLOT + 1));
     let (raw, pair) = (words::pulse_raw(1, 0, 1), put(1, 28, 16) | put(2, 12, 0));
     let [time, time_high] = words::trigger_time(256);
+    let (scalers, none, two) = (words::scalers(18), words::scalers(0), words::scalers(2));
     [
         ("limit, the longest block", 1, vec![trailer]),
         ("limit, cut before the trailer", 1, vec![]),
@@ -32,6 +33,14 @@ fn ends() -> [(&'static str, usize, Vec<u32>); LIMIT_CASES as usize] {
         ("limit, a second pair", 2, vec![raw, pair, pair]),
         ("limit, a pair of a window", 2, vec![words::window(1, 4), pair, pair]),
         ("limit, a second time word", 2, vec![words::event_header(SLOT, 1), time, time_high]),
+        ("limit, scalers", 0, vec![scalers]),
+        ("limit, scalers with a bit that must be zero", 0, vec![scalers | 1 << 6]),
+        ("limit, a first scaler", 1, vec![two, 0]),
+        ("limit, a first scaler missing", 1, vec![two]),
+        ("limit, a second scaler like a trailer", 2, vec![two, ITEM, trailer]),
+        ("limit, an item behind scalers", 1, vec![none, ITEM]),
+        ("limit, the longest block with scalers", 4, vec![two, trailer, pair, trailer]),
+        ("limit, cut among scalers", 3, vec![two, trailer]),
         ("limit, a filler", 1, vec![trailer, filler]),
         ("limit, four fillers", 1, vec![trailer, filler, filler, filler, filler]),
         ("limit, a filler of another slot", 1, vec![trailer, other]),
@@ -40,7 +49,7 @@ fn ends() -> [(&'static str, usize, Vec<u32>); LIMIT_CASES as usize] {
     ]
 }
 
-pub const LIMIT_CASES: u64 = 21;
+pub const LIMIT_CASES: u64 = 29;
 
 pub fn limit_cases() -> impl Iterator<Item = ReaderCase> {
     (0..LIMIT_CASES).map(limit_case)

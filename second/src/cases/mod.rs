@@ -2,6 +2,7 @@
 //! number alone, so the line that it prints is enough to make it again.
 
 mod finder;
+mod frames;
 mod limit;
 mod reader;
 mod record;
@@ -19,14 +20,18 @@ use crate::settings::{Settings, CHANNELS};
 /// The seed when none is given.
 pub const SEED: u64 = 250;
 
-/// The eleven calls, as either program answers them.
+/// The fifteen calls, as either program answers them.
 pub trait Side {
     fn set_up(&self, settings: &[u64], state: &mut [u64]) -> u32;
     fn open_block(&self, state: &mut [u64], words: &mut [u32], number: u32, events: u32) -> u32;
     fn open_event(&self, state: &mut [u64], number: u32, time: u64) -> u32;
     fn post(&self, state: &mut [u64], store: &mut [u16], channel: u32, window: &[u16]) -> u32;
     fn close(&self, state: &mut [u64], store: &[u16], words: &mut [u32]) -> u32;
+    fn close_with_scalers(&self, state: &mut [u64], store: &[u16], words: &mut [u32]) -> u32;
     fn finish(&self, state: &mut [u64], words: &mut [u32]) -> u64;
+    fn count(&self, state: &mut [u64], frames: &[u16]) -> u32;
+    fn latch(&self, state: &mut [u64]) -> u32;
+    fn reset(&self, state: &mut [u64]) -> u32;
     fn find(&self, settings: &[u64], channel: u32, window: &[u16], out: &mut [u32]) -> u32;
     fn check(&self, bytes: &[u8]) -> u64;
     fn next(&self, scan: &mut [u32], words: &[u32], record: &mut [u64]) -> u64;
@@ -53,8 +58,20 @@ impl Side for Second {
     fn close(&self, state: &mut [u64], store: &[u16], words: &mut [u32]) -> u32 {
         calls::close(state, store, words)
     }
+    fn close_with_scalers(&self, state: &mut [u64], store: &[u16], words: &mut [u32]) -> u32 {
+        calls::close_with_scalers(state, store, words)
+    }
     fn finish(&self, state: &mut [u64], words: &mut [u32]) -> u64 {
         calls::finish(state, words)
+    }
+    fn count(&self, state: &mut [u64], frames: &[u16]) -> u32 {
+        calls::count(state, frames)
+    }
+    fn latch(&self, state: &mut [u64]) -> u32 {
+        calls::latch(state)
+    }
+    fn reset(&self, state: &mut [u64]) -> u32 {
+        calls::reset(state)
     }
     fn find(&self, settings: &[u64], channel: u32, window: &[u16], out: &mut [u32]) -> u32 {
         calls::find(settings, channel, window, out)
@@ -191,7 +208,7 @@ fn spoil_settings(rng: &mut Rng, numbers: &mut Vec<u64>) {
         &[4_096, WIDE, u64::MAX],
     ];
     if rng.once_in(12) {
-        let length = rng.pick(&[0, 10, 25, 27, 34]);
+        let length = rng.pick(&[0, 10, 25, 27, 72]);
         numbers.resize(length, 100);
         return;
     }

@@ -127,6 +127,9 @@ fn any_block(rng: &mut Rng) -> Vec<u32> {
         for _ in 0..items {
             any_item(rng, &mut block);
         }
+        if rng.once_in(3) {
+            any_scalers(rng, slot, &mut block);
+        }
     }
     end(rng, slot, block)
 }
@@ -173,6 +176,18 @@ fn any_item(rng: &mut Rng, block: &mut Vec<u32>) {
     }
 }
 
+/// Scalers, as many as they say; their words are often like others of a block.
+fn any_scalers(rng: &mut Rng, slot: u32, block: &mut Vec<u32>) {
+    let count = match rng.below(6) {
+        0 => rng.pick(&[0, 1, 63]),
+        1 => rng.below(64),
+        _ => 18,
+    };
+    block.push(words::scalers(count as u32));
+    let alike = rng.once_in(2);
+    block.extend((0..count).map(|_| if alike { plausible(rng, slot) } else { rng.next() as u32 }));
+}
+
 fn any_pairs(rng: &mut Rng, samples: usize, block: &mut Vec<u32>) {
     let samples: Vec<u16> = (0..samples).map(|_| rng.below(8_192) as u16).collect();
     block.extend(words::pairs(&samples));
@@ -210,6 +225,7 @@ fn long_block(rng: &mut Rng) -> Vec<u32> {
     while block.len() < least {
         any_item(rng, &mut block);
     }
+    any_scalers(rng, slot, &mut block);
     end(rng, slot, block)
 }
 
@@ -229,7 +245,7 @@ fn other_filler(rng: &mut Rng, mut words: Vec<u32>) -> Vec<u32> {
 /// A word of any type that may well be right where it comes to stand.
 fn plausible(rng: &mut Rng, slot: u32) -> u32 {
     let number = rng.below(8) as u32;
-    match rng.below(12) {
+    match rng.below(14) {
         0 => words::block_header(slot, number, number),
         1 => words::trailer(slot, number),
         2 => words::event_header(slot, number),
@@ -241,12 +257,14 @@ fn plausible(rng: &mut Rng, slot: u32) -> u32 {
         8 => words::filler(slot),
         9 => put(rng.below(1 << 13) as u32, 28, 16) | put(1, 13, 13) | u32::from(rng.once_in(4)),
         10 => put(rng.below(1 << 13) as u32, 28, 16) | rng.below(1 << 13) as u32,
+        11 => words::scalers(rng.pick(&[0, 1, 2, 18, 63])),
+        12 => words::scalers(number) | 1 << rng.between(6, 26),
         _ => number,
     }
 }
 
 /// The damages, by their numbers below.
-const DAMAGES: [&str; 10] = [
+const DAMAGES: [&str; 12] = [
     "bit flipped",
     "bit flipped",
     "word lost",
@@ -256,6 +274,8 @@ const DAMAGES: [&str; 10] = [
     "word at random",
     "word replaced",
     "word many times",
+    "scalers spoilt",
+    "scalers spoilt",
     "word put in",
 ];
 
@@ -281,9 +301,33 @@ fn damage(rng: &mut Rng, words: &mut Vec<u32>) -> &'static str {
             let more = vec![words[place]; times];
             words.splice(place..place, more);
         }
+        9 | 10 => spoil_scalers(rng, words, place),
         _ => words.insert(place, plausible(rng, slot)),
     }
     DAMAGES[kind]
+}
+
+/// One of the type 12 words with a bit that must be zero or with another count, a
+/// word put in among its scalers or behind them, or the input cut there.  If there
+/// is none, one is put in at the place.
+fn spoil_scalers(rng: &mut Rng, words: &mut Vec<u32>, place: usize) {
+    let scalers = |&place: &usize| tag(words[place]) == Some(words::SCALERS);
+    let heads: Vec<usize> = (0..words.len()).filter(scalers).collect();
+    if heads.is_empty() {
+        return words.insert(place, words::scalers(rng.below(5) as u32));
+    }
+    let head = rng.pick(&heads);
+    let count = take(words[head], 5, 0) as usize;
+    let behind = words.len().min(head + 1 + count);
+    let among = rng.between(head as u64 + 1, behind as u64) as usize;
+    let slot = take(words[0], 26, 22);
+    match rng.below(6) {
+        0 => words[head] |= 1 << rng.between(6, 26),
+        1 => words[head] = words::scalers(rng.pick(&[count + 1, count + 63, count ^ 1]) as u32),
+        2 => words.truncate(among),
+        3 => words.insert(among, plausible(rng, slot)),
+        _ => words.insert(behind, plausible(rng, slot)),
+    }
 }
 
 /// Makes the last trailer's count right again.

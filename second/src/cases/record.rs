@@ -57,13 +57,14 @@ fn within_item(rng: &mut Rng, words: &[u32], scan: &mut [u32]) {
     let word = words.get(place).copied().unwrap_or(0);
     let slot = take(words.first().copied().unwrap_or(0), 26, 22);
     let stage = match tag(word) {
-        None => rng.pick(&[1, 4, 6, 7]),
-        Some(_) => rng.below(9) as u32,
+        None => rng.pick(&[1, 4, 6, 7, 9]),
+        Some(_) => rng.below(10) as u32,
     };
     let first = match stage {
         4 => rng.pick(&[take(word, 2, 0), 0]),
         6 | 7 => rng.pick(&[1, 1, 2, 3, 249, 250]),
         8 => rng.below(4) as u32,
+        9 => rng.pick(&[0, 0, 1, 2, 18, 63, 64]),
         _ => 0,
     };
     let second = if matches!(stage, 6 | 7) { rng.below(2) as u32 } else { 0 };
@@ -78,8 +79,8 @@ fn altered(rng: &mut Rng, place: usize, words: usize) -> u32 {
         0 => rng.pick(&[near, near, LAST - 1, LAST, LAST + 1, u32::MAX]),
         1 => rng.pick(&[0, 1, 31, 32, u32::MAX]),
         2 => rng.pick(&[0, 1, 2, 255, 256, u32::MAX]),
-        3 => rng.pick(&[0, 1, 2, 3, 4, 5, 6, 7, 8, 9, u32::MAX]),
-        4 => rng.pick(&[0, 1, 2, 3, 4, 7, 8, 250, 251, u32::MAX]),
+        3 => rng.pick(&[0, 1, 2, 3, 4, 5, 6, 7, 8, 9, 9, 10, u32::MAX]),
+        4 => rng.pick(&[0, 1, 2, 3, 4, 7, 8, 63, 64, 250, 251, u32::MAX]),
         _ => rng.pick(&[0, 1, 1, 2, u32::MAX]),
     }
 }

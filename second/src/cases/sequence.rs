@@ -1,7 +1,9 @@
-//! Cases for the writer: calls in any order, with what the host does between.
+//! Cases for the writer and the counts: calls in any order, with what the host
+//! does between.
 
+use super::frames::{any_frames, frames, good_frames};
 use super::{bad_sample, good_settings, spoil_settings, window, Rng, Second, Side};
-use crate::settings::Settings;
+use crate::settings::{Settings, CHANNELS};
 use crate::writer::{Phase, State};
 use std::fmt;
 
@@ -22,8 +24,11 @@ pub enum Step {
     OpenBlock { words: usize, number: u32, events: u32 },
     OpenEvent { number: u32, time: u64 },
     Post { store: usize, channel: u32, window: Vec<u16> },
-    Close { store: usize, words: usize },
+    Close { store: usize, words: usize, scalers: bool },
     Finish { words: usize },
+    Count { frames: Vec<u16> },
+    Latch,
+    Reset,
     /// One of the state's numbers is altered.
     Forge { place: usize, value: u64 },
     /// The state is passed with this many numbers from now on.
@@ -50,11 +55,18 @@ impl Bench {
                 let store = &mut store[..most_store.min(*lent)];
                 side.post(state, store, *channel, window).into()
             }
-            Step::Close { store: lent, words: lent_words } => {
+            Step::Close { store: lent, words: lent_words, scalers } => {
+                let store = &store[..most_store.min(*lent)];
                 let words = &mut words[..most_words.min(*lent_words)];
-                side.close(state, &store[..most_store.min(*lent)], words).into()
+                match scalers {
+                    false => side.close(state, store, words).into(),
+                    true => side.close_with_scalers(state, store, words).into(),
+                }
             }
             Step::Finish { words: lent } => side.finish(state, &mut words[..most_words.min(*lent)]),
+            Step::Count { frames } => side.count(state, frames).into(),
+            Step::Latch => side.latch(state).into(),
+            Step::Reset => side.reset(state).into(),
             Step::Forge { place, value } => set(state, *place, *value),
             Step::StateLength { length } => {
                 state.resize(*length, 0);
@@ -86,6 +98,14 @@ fn set<T>(values: &mut [T], place: usize, value: T) -> u64 {
     }
     0
 }
+
+/// Places of a state: what is counted, and the settings behind it.
+const COUNTS: usize = 8;
+const TIMER: usize = 24;
+const TRIGGERS: usize = 25;
+const PART: usize = 26;
+const OVER: usize = 27;
+const SETTINGS: usize = 46;
 
 #[derive(Clone, Debug, PartialEq, Eq)]
 pub struct SequenceCase {
@@ -120,7 +140,7 @@ impl SequenceCase {
         let length = 16 * nw + rng.pick(&[0, 0, 0, 1, nw]);
         let store = store(&mut rng, length);
         // Room for three full events, or for very many small ones.
-        let full = 3 + 16 * (1 + nw.div_ceil(2)) * 3;
+        let full = 3 + 16 * (1 + nw.div_ceil(2)) * 3 + 19;
         let room = if plan == Plan::Many { 40_000 } else { 3 * full + 64 };
         let bench = Bench {
             state: (0..State::NUMBERS).map(|_| rng.next()).collect(),
@@ -128,7 +148,9 @@ impl SequenceCase {
             words: (0..room).map(|_| rng.next() as u32).collect(),
         };
         let tight = rng.once_in(2);
-        let mut maker = Maker { rng, now: bench.clone(), steps: Vec::new(), whole: 0, plan, tight };
+        let rates = rng.pick(&[2, 5, 12, 100]);
+        let (now, steps) = (bench.clone(), Vec::new());
+        let mut maker = Maker { rng, now, steps, whole: 0, plan, tight, rates };
         maker.push(Step::SetUp { settings: settings.encode().to_vec() });
         maker.make();
         SequenceCase { seed, number, bench, steps: maker.steps }
@@ -188,6 +210,8 @@ struct Maker {
     plan: Plan,
     /// Whether a call gets first too little room for its words, then just enough.
     tight: bool,
+    /// A call that counts comes once in so many times.
+    rates: u64,
 }
 
 impl Maker {
@@ -203,14 +227,17 @@ impl Maker {
 
     fn make(&mut self) {
         let (most, rarity) = match self.plan {
-            Plan::Usual => (90, self.rng.pick(&[3, 8, 30])),
+            Plan::Usual => (100, self.rng.pick(&[3, 8, 30])),
             Plan::Many => (3_000, 500),
-            Plan::Full => (90, 30),
+            Plan::Full => (100, 30),
         };
         let blocks = self.rng.between(1, 3) as u32;
         while self.steps.len() < most && self.whole < blocks {
             if self.rng.once_in(rarity) {
                 self.disturb();
+            } else if self.rng.once_in(self.rates) {
+                let step = self.counting();
+                self.push(step);
             } else {
                 let step = self.natural();
                 let refusal = self.push(step);
@@ -246,9 +273,27 @@ impl Maker {
             Phase::Block if state.closed < state.events => self.open_event(),
             Phase::Block => Step::Finish { words: usize::MAX },
             Phase::Event if self.wants_post(state.marks) => self.post(&state),
-            Phase::Event => Step::Close { store: usize::MAX, words: usize::MAX },
+            Phase::Event => self.close(),
         };
         self.lend_words(step)
+    }
+
+    fn close(&mut self) -> Step {
+        Step::Close { store: usize::MAX, words: usize::MAX, scalers: self.rng.once_in(2) }
+    }
+
+    /// A call that counts, in whatever phase.
+    fn counting(&mut self) -> Step {
+        let thresholds = self.thresholds();
+        match self.rng.below(8) {
+            0 | 1 => Step::Latch,
+            2 => Step::Reset,
+            _ => Step::Count { frames: good_frames(&mut self.rng, &thresholds) },
+        }
+    }
+
+    fn thresholds(&self) -> [u32; CHANNELS] {
+        self.state().map_or([100; CHANNELS], |state| state.settings.thresholds)
     }
 
     fn wants_post(&mut self, marks: u16) -> bool {
@@ -319,7 +364,7 @@ impl Maker {
     }
 
     fn disturb(&mut self) {
-        match self.rng.below(7) {
+        match self.rng.below(8) {
             0 | 1 => {
                 let step = self.any_call();
                 self.push(step);
@@ -327,6 +372,7 @@ impl Maker {
             2 | 3 => self.forge(),
             4 => self.overwrite(),
             5 => self.other_length(),
+            6 => self.near_wrap(),
             _ => {
                 let nw = self.state().map_or(16, |state| state.settings.nw as usize);
                 let length = 16 * nw + self.rng.pick(&[0, 0, 0, 3]) - self.rng.pick(&[0, 0, 0, 1]);
@@ -338,8 +384,12 @@ impl Maker {
 
     /// A call with a state of another length, which is then put right again.
     fn other_length(&mut self) {
-        let length = self.rng.pick(&[0, 8, 26, 33, 35]);
-        let step = if self.rng.once_in(3) { self.any_set_up() } else { self.natural() };
+        let length = self.rng.pick(&[0, 8, 34, 71, 73]);
+        let step = match self.rng.below(4) {
+            0 => self.any_set_up(),
+            1 => self.counting(),
+            _ => self.natural(),
+        };
         let old = self.now.state.clone();
         self.push(Step::StateLength { length });
         self.push(step);
@@ -362,7 +412,7 @@ impl Maker {
         let rng = &mut self.rng;
         let words = rng.pick(&[0, 1, 2, full, full]);
         let store = rng.pick(&[0, self.now.store.len().saturating_sub(1), full, full]);
-        match rng.below(6) {
+        match rng.below(10) {
             0 => self.any_set_up(),
             1 => {
                 let number = rng.pick(&[0, 1_023, 1_024, u32::MAX]);
@@ -373,8 +423,13 @@ impl Maker {
                 Step::OpenEvent { number: rng.pick(&[0, 4_194_303, 4_194_304, u32::MAX]), time }
             }
             3 => self.any_post(store),
-            4 => Step::Close { store, words },
-            _ => Step::Finish { words },
+            4 | 5 => Step::Close { store, words, scalers: rng.once_in(2) },
+            6 => Step::Finish { words },
+            7 => self.counting(),
+            _ => {
+                let thresholds = self.thresholds();
+                Step::Count { frames: any_frames(&mut self.rng, &thresholds) }
+            }
         }
     }
 
@@ -397,12 +452,16 @@ impl Maker {
     /// One or two numbers of the state altered before the next call, and mostly
     /// put back when that was refused.
     fn forge(&mut self) {
-        let step = self.natural();
+        let step = if self.rng.once_in(3) { self.counting() } else { self.natural() };
         let old = self.now.state.clone();
         for _ in 0..self.rng.between(1, 2) {
-            let place = match self.rng.below(3) {
+            let place = match self.rng.below(4) {
                 0 => self.rng.place(self.now.state.len()),
-                _ => self.rng.place(8),
+                1 => {
+                    let any = COUNTS + self.rng.place(SETTINGS - COUNTS);
+                    self.rng.pick(&[any, any, PART, OVER])
+                }
+                _ => self.rng.place(COUNTS),
             };
             let value = self.now.state.get(place).copied().unwrap_or(0);
             let value = self.forged(place, value);
@@ -442,15 +501,42 @@ impl Maker {
                 let times = state.as_ref().map_or(0, |state| u64::from(state.settings.times));
                 let header = state.map_or(1, |state| 1 + u64::from(state.settings.parameters));
                 let least = header.saturating_add(closed.saturating_mul(1 + times));
-                let most = closed.saturating_mul(12_051).saturating_add(2);
+                let most = closed.saturating_mul(12_070).saturating_add(2);
                 self.rng.pick(&[least - 1, least, most, most.saturating_add(1)])
             }
-            0 | 1 if place < 8 => self.rng.pick(EDGES[place]),
+            0 | 1 if place < COUNTS => self.rng.pick(EDGES[place]),
+            0 | 1 if place < SETTINGS => self.forged_count(place),
             2 => self.rng.pick(&[old.wrapping_add(1), old.wrapping_sub(1), old ^ 1]),
             _ => {
                 self.rng.pick(&[old.wrapping_add(1 << 32), 1 << 32, u64::MAX, old.wrapping_add(2)])
             }
         }
+    }
+
+    fn forged_count(&mut self, place: usize) -> u64 {
+        const WIDE: u64 = 1 << 32;
+        self.rng.pick(match place {
+            PART => &[0, 510, 511, 512, WIDE],
+            OVER => &[0, 1, 0xFFFF, 0x1_0000, 0x1_FFFF],
+            _ => &[0, 1, WIDE - 2, WIDE - 1, WIDE],
+        })
+    }
+
+    /// Counts that are about to wrap; then frames, and what comes next.
+    fn near_wrap(&mut self) {
+        let channel = COUNTS + self.rng.place(CHANNELS);
+        for place in [channel, TIMER, TRIGGERS] {
+            let value = u64::from(u32::MAX) - self.rng.below(2);
+            self.push(Step::Forge { place, value });
+        }
+        let value = 511 - self.rng.below(3);
+        self.push(Step::Forge { place: PART, value });
+        let thresholds = self.thresholds();
+        let count = self.rng.between(1, 6) as usize;
+        let frames = frames(&mut self.rng, &thresholds, count);
+        self.push(Step::Count { frames });
+        let step = self.natural();
+        self.push(step);
     }
 
     /// Samples of the store overwritten between calls; a bad one mostly is put
@@ -462,7 +548,7 @@ impl Maker {
         self.push(Step::Overwrite { place, value });
         if bad {
             let step = match self.rng.below(2) {
-                0 => Step::Close { store: usize::MAX, words: usize::MAX },
+                0 => self.close(),
                 _ => self.natural(),
             };
             self.push(step);

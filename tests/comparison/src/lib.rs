@@ -1,4 +1,4 @@
-//! The library's side: the eleven calls of `include/fadc250.h`.
+//! The library's side: the fifteen calls of `include/fadc250.h`.
 
 use second::cases::Side;
 
@@ -30,7 +30,18 @@ extern "C" {
         words: *mut u32,
         w: usize,
     ) -> u32;
+    fn fadc250_close_with_scalers(
+        state: *mut u64,
+        m: usize,
+        store: *const u16,
+        s: usize,
+        words: *mut u32,
+        w: usize,
+    ) -> u32;
     fn fadc250_finish(state: *mut u64, m: usize, words: *mut u32, w: usize) -> u64;
+    fn fadc250_count(state: *mut u64, m: usize, frames: *const u16, n: usize) -> u32;
+    fn fadc250_latch(state: *mut u64, m: usize) -> u32;
+    fn fadc250_reset(state: *mut u64, m: usize) -> u32;
     fn fadc250_find(
         settings: *const u64,
         n: usize,
@@ -109,8 +120,29 @@ impl Side for Library {
             )
         }
     }
+    fn close_with_scalers(&self, state: &mut [u64], store: &[u16], words: &mut [u32]) -> u32 {
+        unsafe {
+            fadc250_close_with_scalers(
+                state.as_mut_ptr(),
+                state.len(),
+                store.as_ptr(),
+                store.len(),
+                words.as_mut_ptr(),
+                words.len(),
+            )
+        }
+    }
     fn finish(&self, state: &mut [u64], words: &mut [u32]) -> u64 {
         unsafe { fadc250_finish(state.as_mut_ptr(), state.len(), words.as_mut_ptr(), words.len()) }
+    }
+    fn count(&self, state: &mut [u64], frames: &[u16]) -> u32 {
+        unsafe { fadc250_count(state.as_mut_ptr(), state.len(), frames.as_ptr(), frames.len()) }
+    }
+    fn latch(&self, state: &mut [u64]) -> u32 {
+        unsafe { fadc250_latch(state.as_mut_ptr(), state.len()) }
+    }
+    fn reset(&self, state: &mut [u64]) -> u32 {
+        unsafe { fadc250_reset(state.as_mut_ptr(), state.len()) }
     }
     fn find(&self, settings: &[u64], channel: u32, window: &[u16], out: &mut [u32]) -> u32 {
         unsafe {

@@ -5,6 +5,8 @@ mod table;
 mod writing;
 
 use second::cases::{LIMIT_CASES, SEED};
+use second::scalers::SCALERS;
+use std::collections::BTreeSet;
 use std::fmt::{Debug, Display};
 use std::process::ExitCode;
 use std::sync::atomic::{AtomicBool, Ordering};
@@ -42,11 +44,22 @@ pub struct Run {
     /// The most words of an event, and the most events of a block.
     longest_event: u64,
     most_events: u64,
+    /// The counts that wrapped: of channels 0 to 15, the timer, the triggers.
+    wrapped: BTreeSet<usize>,
+    /// Whether a record of this kind was read; 0 is none.
+    kinds: [bool; 19],
 }
 
 impl Run {
     fn new(lister: &str) -> Run {
-        Run { lister: lister.to_string(), met: Table::new(), longest_event: 0, most_events: 0 }
+        Run {
+            lister: lister.to_string(),
+            met: Table::new(),
+            longest_event: 0,
+            most_events: 0,
+            wrapped: BTreeSet::new(),
+            kinds: [false; 19],
+        }
     }
 
     /// With what another thread met.
@@ -54,6 +67,23 @@ impl Run {
         self.met.join(&other.met);
         self.longest_event = self.longest_event.max(other.longest_event);
         self.most_events = self.most_events.max(other.most_events);
+        self.wrapped.extend(&other.wrapped);
+        self.kinds.iter_mut().zip(other.kinds).for_each(|(own, more)| *own |= more);
+    }
+
+    /// What never came: all channels with the most words and scalers behind them, a block of the most events, a count
+    /// that wraps, a kind of record, an answer of the table.
+    fn missing(&self) -> Result<(), String> {
+        if self.longest_event <= 12_019 || self.most_events < 255 {
+            return Err("no event of more than 12,019 words, or no block of 255 events".to_string());
+        }
+        if self.wrapped.len() < SCALERS {
+            return Err(format!("of the counts only {:?} wrapped", self.wrapped));
+        }
+        if let Some(kind) = self.kinds.iter().skip(1).position(|read| !read) {
+            return Err(format!("no record of the kind {} was read", kind + 1));
+        }
+        self.met.missing()
     }
 
     /// Counts a call's answer, 0 or its refusal, if what both sides gave is the same.
@@ -121,10 +151,7 @@ fn compare(run: &mut Run, seed: u64, times: u64) -> Result<(), String> {
     });
     runs.iter().for_each(|own| run.join(own));
     results.into_iter().collect::<Result<(), String>>()?;
-    if run.longest_event <= 12_000 || run.most_events < 255 {
-        return Err("no event of more than 12,000 words, or no block of 255 events".to_string());
-    }
-    run.met.missing()
+    run.missing()
 }
 
 fn one(run: &mut Run, kind: &Kind, seed: u64, number: u64) -> Result<(), String> {
@@ -136,7 +163,8 @@ fn one(run: &mut Run, kind: &Kind, seed: u64, number: u64) -> Result<(), String>
 fn said(run: &Run) -> String {
     use Call::*;
     let met = &run.met;
-    let calls = met.made(&[SetUp, OpenBlock, OpenEvent, Post, Close, Finish]);
+    let writing = met.made(&[SetUp, OpenBlock, OpenEvent, Post, Close, CloseWithScalers, Finish]);
+    let calls = writing + met.made(&[Count, Latch, Reset]);
     let [windows, inputs, records] = [Find, Check, Next].map(|call| met.made(&[call]));
     let [parts, texts, listings] = [Samples, List, Lister].map(|call| met.made(&[call]));
     format!(

@@ -52,7 +52,7 @@ pub fn limit(run: &mut Run, _: u64, number: u64) -> Result<(), String> {
     let checked = check(run, &case, &case.bytes)?;
     let words = words_of_bytes(&case.bytes).unwrap_or_default();
     let events = words.first().map_or(0, |header| header & 0xFF);
-    let near_end = [LIMIT as u32 - 3, 5, events - 1, 5, 0, 0];
+    let near_end = [LIMIT as u32 - 4, 5, events - 1, 5, 0, 0];
     read(run, &case, &words, near_end, checked)
 }
 
@@ -92,12 +92,20 @@ fn read(
             &(a >> 32, a as u32, ours),
             &(b >> 32, b as u32, theirs),
         )?;
+        read_kind(run, a, &ours.1);
         if a >> 32 != 0 || ours.1[0] == END {
             let told = || format!("{what}: it answers {a:#x}, the check {checked:#x}\n");
             return if a == checked { Ok(()) } else { Err(told()) };
         }
     }
     Err(format!("{what}: the reading does not end\n"))
+}
+
+/// Notes the kind of a record that was read.
+fn read_kind(run: &mut Run, answer: u64, record: &[u64]) {
+    if answer >> 32 == 0 {
+        run.kinds[record[0] as usize] = true;
+    }
 }
 
 /// The samples of each raw item of the first block.
@@ -147,7 +155,10 @@ pub fn scan(run: &mut Run, seed: u64, number: u64) -> Result<(), String> {
         ((case.scan.clone(), case.record.clone()), (case.scan.clone(), case.record.clone()));
     let a = Library.next(&mut ours.0, &case.words, &mut ours.1);
     let b = Second.next(&mut theirs.0, &case.words, &mut theirs.1);
-    run.same(&case, Call::Next, a >> 32, &(a >> 32, a as u32, ours), &(b >> 32, b as u32, theirs))
+    let (ours, theirs) = ((a >> 32, a as u32, ours), (b >> 32, b as u32, theirs));
+    run.same(&case, Call::Next, a >> 32, &ours, &theirs)?;
+    read_kind(run, a, &ours.2 .1);
+    Ok(())
 }
 
 /// Any part of any words, or what is no part of them.

@@ -10,7 +10,11 @@ pub enum Call {
     OpenEvent,
     Post,
     Close,
+    CloseWithScalers,
     Finish,
+    Count,
+    Latch,
+    Reset,
     Find,
     Check,
     Next,
@@ -20,13 +24,17 @@ pub enum Call {
 }
 
 /// Their names, and the answers that each can give by the paper and the header: 0 or a refusal.
-const CALLS: [(&str, &[u64]); 12] = [
+const CALLS: [(&str, &[u64]); 16] = [
     ("set_up", &[0, 1, 64]),
     ("open_block", &[0, 7, 8, 9, 10]),
     ("open_event", &[0, 7, 8, 10]),
     ("post", &[0, 2, 3, 4, 5, 6, 7, 10]),
     ("close", &[0, 2, 3, 7, 9, 10]),
+    ("close_with_scalers", &[0, 2, 3, 7, 9, 10]),
     ("finish", &[0, 7, 9, 10]),
+    ("count", &[0, 3, 10, 19]),
+    ("latch", &[0, 10]),
+    ("reset", &[0, 10]),
     ("find", &[0, 1, 3, 4, 5, 64]),
     ("check", &[0, 11, 12, 13, 14, 15, 16]),
     ("next", &[0, 11, 12, 13, 14, 15, 64]),
@@ -35,9 +43,11 @@ const CALLS: [(&str, &[u64]); 12] = [
     ("lister", &[0, 11, 12, 13, 14, 15, 16]),
 ];
 
-/// The answers that a column is printed for: first the calls that write, then those that read.
-const PARTS: [(&[u64], std::ops::Range<usize>); 2] =
-    [(&[0, 1, 2, 3, 4, 5, 6, 7, 8, 9, 10, 64], 0..7), (&[0, 11, 12, 13, 14, 15, 16, 64], 7..12)];
+/// The answers that a column is printed for: first the calls that write, count and find, then those that read.
+const PARTS: [(&[u64], std::ops::Range<usize>); 2] = [
+    (&[0, 1, 2, 3, 4, 5, 6, 7, 8, 9, 10, 19, 64], 0..11),
+    (&[0, 11, 12, 13, 14, 15, 16, 64], 11..16),
+];
 
 pub struct Table([[u64; 65]; CALLS.len()]);
 
@@ -75,7 +85,7 @@ impl Table {
             false => format!("{:>8}", ""),
         };
         let cells: String = answers.iter().map(cell).collect();
-        format!("{name:<10}{}\n", cells.trim_end())
+        format!("{name:<18}{}\n", cells.trim_end())
     }
 
     /// The first answer that can come and did not.
@@ -97,7 +107,7 @@ impl fmt::Display for Table {
             let made = rows.filter(|&row| self.0[row].iter().sum::<u64>() > 0);
             let body: String = made.map(|row| self.row(row, answers)).collect();
             if !body.is_empty() {
-                write!(f, "{:<10}{head}\n{body}", "answer")?;
+                write!(f, "{:<18}{head}\n{body}", "answer")?;
             }
         }
         Ok(())

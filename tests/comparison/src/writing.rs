@@ -1,4 +1,4 @@
-//! The finder, and the calls that write a block.
+//! The finder, and the calls that write a block and count.
 
 use crate::table::Call;
 use crate::{first_difference, Run};
@@ -13,9 +13,10 @@ pub fn finder(run: &mut Run, seed: u64, number: u64) -> Result<(), String> {
     run.same(&case, Call::Find, a.into(), &(a, ours), &(b, theirs))
 }
 
-/// The places in a state of the events closed and of the words written.
+/// The places in a state of the events closed, of the words written and of the running counts.
 const CLOSED: usize = 6;
 const WORDS: usize = 7;
+const COUNTS: std::ops::Range<usize> = 8..26;
 
 /// State, store and words are compared whole after each step.
 pub fn sequence(run: &mut Run, seed: u64, number: u64) -> Result<(), String> {
@@ -24,6 +25,7 @@ pub fn sequence(run: &mut Run, seed: u64, number: u64) -> Result<(), String> {
     let mut closed = 0;
     for (place, step) in case.steps.iter().enumerate() {
         let [events, words] = [CLOSED, WORDS].map(|place| ours.state.get(place).map_or(0, |n| *n));
+        let counts = ours.state.get(COUNTS).map(<[u64]>::to_vec).unwrap_or_default();
         let (a, b) = (ours.apply(&Library, step), theirs.apply(&Second, step));
         if ours != theirs {
             let state = first_difference("state", &ours.state, &theirs.state);
@@ -36,13 +38,18 @@ pub fn sequence(run: &mut Run, seed: u64, number: u64) -> Result<(), String> {
         run.same(&format_args!("{case}, step {place}: {step:?}"), call, refusal, &a, &b)?;
         match call {
             Call::OpenBlock if refusal == 0 => closed = 0,
-            Call::Close if refusal == 0 => {
+            Call::Close | Call::CloseWithScalers if refusal == 0 => {
                 closed += 1;
                 run.longest_event = run.longest_event.max(ours.state[WORDS] - words);
             }
             // unless the count was forged
             Call::Finish if refusal == 0 && closed == events => {
                 run.most_events = run.most_events.max(events);
+            }
+            Call::Count | Call::OpenEvent if refusal == 0 => {
+                let pairs = counts.iter().zip(&ours.state[COUNTS]).enumerate();
+                run.wrapped
+                    .extend(pairs.filter(|(_, (old, new))| new < old).map(|(count, _)| count));
             }
             _ => {}
         }
@@ -57,8 +64,12 @@ fn call(step: &Step) -> Option<Call> {
         Step::OpenBlock { .. } => Some(Call::OpenBlock),
         Step::OpenEvent { .. } => Some(Call::OpenEvent),
         Step::Post { .. } => Some(Call::Post),
-        Step::Close { .. } => Some(Call::Close),
+        Step::Close { scalers: false, .. } => Some(Call::Close),
+        Step::Close { scalers: true, .. } => Some(Call::CloseWithScalers),
         Step::Finish { .. } => Some(Call::Finish),
+        Step::Count { .. } => Some(Call::Count),
+        Step::Latch => Some(Call::Latch),
+        Step::Reset => Some(Call::Reset),
         _ => None,
     }
 }

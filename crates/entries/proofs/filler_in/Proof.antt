@@ -14,7 +14,7 @@ use Rattle.entries.proofs.filler_in.Statement.{statement}
 use Rattle.entries.proofs.filler_in.Tie as tie
 
 abbrev others : List ℕ
-others = 0 ∷ 1 ∷ 2 ∷ 3 ∷ 4 ∷ 5 ∷ 6 ∷ 7 ∷ 8 ∷ 9 ∷ 10 ∷ 11 ∷ 12 ∷ []
+others = 0 ∷ 1 ∷ 2 ∷ 3 ∷ 4 ∷ 5 ∷ 6 ∷ 7 ∷ 8 ∷ 9 ∷ 10 ∷ 11 ∷ 12 ∷ 14 ∷ 15 ∷ []
 
 -- no other item is a filler
 other : (x : Item) → OneOf others (tagOf the-type x) → 0 ≡ fillerIn x
@@ -32,6 +32,8 @@ other (I.Time r) h = refl
 other (I.Pedestal r) h = refl
 other (I.Empty r) h = refl
 other (I.Filler r) h = absurd (miss others 13 tt h)
+other (I.Scalers r) h = refl
+other (I.Scaler r) h = refl
 
 returns : tie.Need-returns
 returns c = (rw (c .enum-told .given .1), omega arith)

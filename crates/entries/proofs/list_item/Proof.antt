@@ -47,6 +47,12 @@ returns-13 c = item-line (c .before .before .before .before .before .item12 .giv
 returns-14 : tie.Need-returns-14
 returns-14 c = item-none (c .enum-told2 .given .1) _ _ refl
 
+returns-15 : tie.Need-returns-15
+returns-15 c = item-line (c .before .before .before .before .enum-told3 .given .1) _ _ _ _ (c .before .before .put-scalers .ensures) refl
+
+returns-16 : tie.Need-returns-16
+returns-16 c = item-none (c .enum-told4 .given .1) _ _ refl
+
 pub list-item-spec : {M : Type 1} → statement M
 list-item-spec =
     tie.close
@@ -79,6 +85,9 @@ list-item-spec =
     (λ c κs. search needs)
     (λ c. search needs)
     (λ c. search needs)
+    (λ c κs. search needs)
+    (λ c. search needs)
+    (λ c. search needs)
     returns
     (λ c. search needs)
     returns-2
@@ -103,4 +112,7 @@ list-item-spec =
     returns-12
     (λ c. search needs)
     returns-13
-    returns-14)
+    returns-14
+    (λ c. search needs)
+    returns-15
+    returns-16)

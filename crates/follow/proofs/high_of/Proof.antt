@@ -15,7 +15,7 @@ use Rattle.follow.proofs.high_of.Statement.{statement}
 use Rattle.follow.proofs.high_of.Tie as tie
 
 abbrev others : List ℕ
-others = 0 ∷ 1 ∷ 2 ∷ 3 ∷ 4 ∷ 6 ∷ 7 ∷ 8 ∷ 9 ∷ 10 ∷ 11 ∷ 12 ∷ 13 ∷ []
+others = 0 ∷ 1 ∷ 2 ∷ 3 ∷ 4 ∷ 6 ∷ 7 ∷ 8 ∷ 9 ∷ 10 ∷ 11 ∷ 12 ∷ 13 ∷ 14 ∷ 15 ∷ []
 
 -- no other item is a second time word
 other : (x : Item) (u : Scan) → OneOf others (tagOf the-type x) → H.Nothing ≡ highOf x u
@@ -33,6 +33,8 @@ other (I.Time x) u h = refl
 other (I.Pedestal x) u h = refl
 other (I.Empty x) u h = refl
 other (I.Filler x) u h = refl
+other (I.Scalers x) u h = refl
+other (I.Scaler x) u h = refl
 
 returns : tie.Need-returns
 returns c = rw (c .before .item .given .1)

@@ -61,7 +61,9 @@ in-stage-spec =
     (λ c. search needs)
     (λ c. search needs)
     (λ c. search needs)
+    (λ c. search needs)
     returns-8
     returns-9
     returns-10
+    (λ c. search needs)
     (λ c. search needs))

@@ -10,12 +10,13 @@ use Rattle.host.proofs.fadc250_open_event.Tie as tie
 
 place-event-requires : tie.Need-place-event-requires
 place-event-requires c κs =
-    let made = c .before .before .before in
-    event-room _ _ _ (made .before .state-or-none .ensures) (made .open-event .ensures) (eqb-true _ 0 (sym (c .before .before .accepted .ensures) ∙ c .before .if1 .taken))
+    let taken = c .before .before .before in
+    let made = taken .before .before in
+    event-room _ _ _ (made .before .state-or-none .ensures) (made .open-event .ensures) (eqb-true _ 0 (sym (taken .before .accepted .ensures) ∙ taken .if1 .taken))
 
 returns : tie.Need-returns
 returns c =
-    let taken = c .before .before .before .before in
+    let taken = c .before .before .before .before .before .before in
     let made = taken .before .before in
     open-event-face _ _ _ (made .before .state-or-none .ensures) (made .open-event .ensures) (sym (eqb-true _ 0 (sym (taken .before .accepted .ensures) ∙ taken .if1 .taken))) (c .before .before .place-event .ensures)
 

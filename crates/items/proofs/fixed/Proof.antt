@@ -45,6 +45,12 @@ returns-13 c = rw (c .enum-told13 .given .1)
 returns-14 : tie.Need-returns-14
 returns-14 c = rw (c .enum-told14 .given .1)
 
+returns-15 : tie.Need-returns-15
+returns-15 c = rw (c .before .enum-told15 .given .1) (c .fixed8 .ensures)
+
+returns-16 : tie.Need-returns-16
+returns-16 c = rw (c .enum-told16 .given .1)
+
 pub fixed-spec : {M : Type 1} → statement M
 fixed-spec =
     tie.close
@@ -70,6 +76,9 @@ fixed-spec =
     (λ c. search needs)
     (λ c. search needs)
     (λ c. search needs)
+    (λ c. search needs)
+    (λ c κs. tt)
+    (λ c. search needs)
     returns
     returns-2
     returns-3
@@ -83,4 +92,6 @@ fixed-spec =
     returns-11
     returns-12
     returns-13
-    returns-14)
+    returns-14
+    returns-15
+    returns-16)

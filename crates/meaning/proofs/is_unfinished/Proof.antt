@@ -13,7 +13,7 @@ use Rattle.meaning.proofs.is_unfinished.Statement.{statement}
 use Rattle.meaning.proofs.is_unfinished.Tie as tie
 
 -- all but the tail
-other : (p : Stage) → OneOf (0 ∷ 1 ∷ 2 ∷ 3 ∷ 4 ∷ 5 ∷ 6 ∷ 7 ∷ []) (tagOf the-type p) → true ≡ unfinishedBy p
+other : (p : Stage) → OneOf (0 ∷ 1 ∷ 2 ∷ 3 ∷ 4 ∷ 5 ∷ 6 ∷ 7 ∷ 9 ∷ []) (tagOf the-type p) → true ≡ unfinishedBy p
 other P.Start k = refl
 other P.Head k = refl
 other P.Front k = refl
@@ -22,7 +22,8 @@ other (P.Timed d) k = refl
 other P.Items k = refl
 other (P.Window n odd) k = refl
 other (P.Raw n some) k = refl
-other (P.Tail n) k = absurd (miss (0 ∷ 1 ∷ 2 ∷ 3 ∷ 4 ∷ 5 ∷ 6 ∷ 7 ∷ []) 8 tt k)
+other (P.Tail n) k = absurd (miss (0 ∷ 1 ∷ 2 ∷ 3 ∷ 4 ∷ 5 ∷ 6 ∷ 7 ∷ 9 ∷ []) 8 tt k)
+other (P.Scalers n) k = refl
 
 returns-2 : tie.Need-returns-2
 returns-2 c = other (c .before .args .scan .stage) (c .match .keys2)

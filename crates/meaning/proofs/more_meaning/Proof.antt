@@ -15,6 +15,9 @@ returns-7 c = rw (c .enum-told7 .given .1)
 returns-8 : tie.Need-returns-8
 returns-8 c = rw (c .before .before .p .given .1) (c .raw-more .ensures)
 
+returns-10 : tie.Need-returns-10
+returns-10 c = rw (c .before .before .p2 .given .1) (c .scaler-or .ensures)
+
 pub more-meaning-spec : {M : Type 1} → statement M
 more-meaning-spec =
     tie.close
@@ -30,6 +33,8 @@ more-meaning-spec =
     (λ c κs. search needs)
     (λ c. search needs)
     (λ c. search needs)
+    (λ c κs. search needs)
+    (λ c. search needs)
     returns-2
     (λ c. search needs)
     (λ c. search needs)
@@ -37,4 +42,5 @@ more-meaning-spec =
     (λ c. search needs)
     returns-7
     returns-8
-    (λ c. search needs))
+    (λ c. search needs)
+    returns-10)

@@ -27,6 +27,9 @@ returns-8 c = simp (c .raw-meaning .ensures, c .before .before .p .given .1)
 returns-9 : tie.Need-returns-9
 returns-9 c = simp (c .tail-meaning .ensures, c .before .before .p2 .given .1)
 
+returns-10 : tie.Need-returns-10
+returns-10 c = simp (c .scalers-meaning .ensures, c .before .before .p3 .given .1)
+
 pub type-meaning-spec : {M : Type 1} → statement M
 type-meaning-spec =
     tie.close
@@ -48,6 +51,8 @@ type-meaning-spec =
     (λ c κs. search needs)
     (λ c. search needs)
     (λ c κs. search needs)
+    (λ c. search needs)
+    (λ c κs. search needs)
     returns
     returns-2
     returns-3
@@ -56,4 +61,5 @@ type-meaning-spec =
     returns-6
     (λ c. search needs)
     returns-8
-    returns-9)
+    returns-9
+    returns-10)

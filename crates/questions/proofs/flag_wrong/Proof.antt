@@ -17,16 +17,17 @@ returns : tie.Need-returns
 returns c = rw (c .before .before .p .given .1) (c .window-flag-wrong .ensures)
 
 -- nothing is wrong elsewhere
-other : (p : Stage) (k : ℕ) → OneOf (0 ∷ 1 ∷ 2 ∷ 3 ∷ 4 ∷ 5 ∷ 7 ∷ 8 ∷ []) (tagOf the-type p) → false ≡ flagBy p k
+other : (p : Stage) (k : ℕ) → OneOf (0 ∷ 1 ∷ 2 ∷ 3 ∷ 4 ∷ 5 ∷ 7 ∷ 8 ∷ 9 ∷ []) (tagOf the-type p) → false ≡ flagBy p k
 other P.Start k o = refl
 other P.Head k o = refl
 other P.Front k o = refl
 other P.Opened k o = refl
 other (P.Timed d) k o = refl
 other P.Items k o = refl
-other (P.Window n odd) k o = absurd (miss (0 ∷ 1 ∷ 2 ∷ 3 ∷ 4 ∷ 5 ∷ 7 ∷ 8 ∷ []) 6 tt o)
+other (P.Window n odd) k o = absurd (miss (0 ∷ 1 ∷ 2 ∷ 3 ∷ 4 ∷ 5 ∷ 7 ∷ 8 ∷ 9 ∷ []) 6 tt o)
 other (P.Raw n some) k o = refl
 other (P.Tail n) k o = refl
+other (P.Scalers n) k o = refl
 
 returns-2 : tie.Need-returns-2
 returns-2 c = other (c .before .args .scan .stage) (c .before .args .flag) (c .match .keys2)

@@ -2,7 +2,7 @@
 use mathlib.Core.Bool.{not, or-false}
 use borrow.Author.Needs.{needs}
 use Rattle.ground.specs.Tests.{firstOf}
-use Rattle.framing.specs.Words.{parametersFixed, trailerOf, eventHeaderOf, fillerOf}
+use Rattle.framing.specs.Words.{parametersFixed, trailerOf, eventHeaderOf, fillerOf, scalersFixed}
 use Rattle.raw.specs.Words.{pulseRawFixed}
 use Rattle.measures.specs.Words.{timeFixed}
 use Rattle.questions.proofs.refusal.Statement.{statement}
@@ -64,6 +64,14 @@ returns-14 : tie.Need-returns-14
 unfolding firstOf fillerOf
 returns-14 c = simp (c .first-wrong10 .ensures, c .before .slot-wrong3 .ensures, c .before .before .enum-told14 .given .1)
 
+returns-15 : tie.Need-returns-15
+unfolding firstOf
+returns-15 c = simp (c .first-wrong11 .ensures, c .before .fixed4 .ensures, c .before .before .enum-told15 .given .1, or-false (not (scalersFixed (c .before .before .before .before .args .word))))
+
+returns-16 : tie.Need-returns-16
+unfolding firstOf
+returns-16 c = simp (c .enum-told16 .given .1)
+
 pub refusal-spec : {M : Type 1} → statement M
 refusal-spec =
     tie.close
@@ -103,6 +111,10 @@ refusal-spec =
     (λ c. search needs)
     (λ c κs. tt)
     (λ c κs. tt)
+    (λ c. search needs)
+    (λ c κs. tt)
+    (λ c κs. tt)
+    (λ c. search needs)
     returns
     returns-2
     returns-3
@@ -116,4 +128,6 @@ refusal-spec =
     returns-11
     returns-12
     returns-13
-    returns-14)
+    returns-14
+    returns-15
+    returns-16)

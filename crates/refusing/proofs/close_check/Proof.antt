@@ -1,7 +1,7 @@
 -- `refusing::close_check` meets its contract, row by row. Assumes nothing.
 use Prim.Native.Nat.{ℕ}
 use mathlib.Core.Path.{_≡_, sym, _∙_}
-use mathlib.Core.Bool.{Bool, true, not, _||_}
+use mathlib.Core.Bool.{Bool, true, false, not, _||_}
 use mathlib.Core.List.{List}
 use native.Mathlib.Omega.{arith}
 use borrow.Author.Tests.{ltb-false, not-false}
@@ -21,15 +21,15 @@ use Rattle.refusing.proofs.close_check.Statement.{statement}
 use Rattle.refusing.proofs.close_check.Tie as tie
 
 abbrev table : tie.Start → List (ℕ × Bool)
-table c = take 4 (closeTable (c .args .s) (c .args .store .now) 0)
+table c = take 4 (closeTable (c .args .s) false (c .args .store .now) 0)
 
 -- ---- past a row that is off, the rest of the table is asked
 
 -- in turn the ranges of the phase are asked
-asked : (c : tie.After-during-ok) → let s = c .before .before .before .before .before .before .before .args .s in not (stateOk s) ≡ (not (c .before .in-range .result) || not (c .during-ok .result))
+asked : (c : tie.After-during-ok) → let s = c .before .before .before .before .before .before .before .args .s in not (stateOk s) ≡ (not (c .before .common-ok .result) || not (c .during-ok .result))
 asked c =
     let turn = c .before .before in
-    ranges-asked _ Event (is-event _ (sym (turn .before .is-event .ensures) ∙ not-false _ (turn .if1 .left))) (c .before .in-range .ensures) (c .during-ok .ensures)
+    ranges-asked _ Event (is-event _ (sym (turn .before .is-event .ensures) ∙ not-false _ (turn .if1 .left))) (c .before .common-ok .ensures) (c .during-ok .ensures)
 
 -- the store holds the rows of a state in range, and the state has sixteen marks
 lent : (c : tie.Else3) → let a = c .before .before .before .before .before .before .before .before .before .before .args in Lent (a .s .settings) (a .s .posted) (a .store .now)

@@ -22,10 +22,10 @@ table c = openBlockTable (c .args .s) (c .args .room) (c .args .number) (c .args
 -- ---- past a row that is off, the rest of the table is asked
 
 -- in turn the ranges of the phase are asked
-asked : (c : tie.After-idle-ok) → let s = c .before .before .before .before .before .args .s in not (stateOk s) ≡ (not (c .before .in-range .result) || not (c .idle-ok .result))
+asked : (c : tie.After-idle-ok) → let s = c .before .before .before .before .before .args .s in not (stateOk s) ≡ (not (c .before .common-ok .result) || not (c .idle-ok .result))
 asked c =
     let turn = c .before .before in
-    ranges-asked _ Idle (is-idle _ (sym (turn .before .is-idle .ensures) ∙ not-false _ (turn .if1 .left))) (c .before .in-range .ensures) (c .idle-ok .ensures)
+    ranges-asked _ Idle (is-idle _ (sym (turn .before .is-idle .ensures) ∙ not-false _ (turn .if1 .left))) (c .before .common-ok .ensures) (c .idle-ok .ensures)
 
 past-1 : (c : tie.Else2) {n : ℕ} → FirstIs (drop 1 (table (c .before .before .before .before .before .before))) n → FirstIs (table (c .before .before .before .before .before .before)) n
 unfolding openBlockTable

@@ -21,35 +21,35 @@ table c = openEventTable (c .args .s) (c .args .number) (c .args .time)
 -- ---- past a row that is off, the rest of the table is asked
 
 -- in turn the ranges of the phase are asked
-asked : (c : tie.After-between-ok) → let s = c .before .before .before .before .before .args .s in not (stateOk s) ≡ (not (c .before .in-range .result) || not (c .between-ok .result))
+asked : (c : tie.After-between-ok) → let s = c .before .before .before .before .args .s in not (stateOk s) ≡ (not (c .before .common-ok .result) || not (c .between-ok .result))
 asked c =
     let turn = c .before .before in
-    ranges-asked _ Block (is-block _ (sym (turn .before .is-block .ensures) ∙ not-false _ (turn .if1 .left))) (c .before .in-range .ensures) (c .between-ok .ensures)
+    ranges-asked _ Block (is-block _ (sym (turn .before .is-block .ensures) ∙ not-false _ (turn .if1 .left))) (c .before .common-ok .ensures) (c .between-ok .ensures)
 
-past-1 : (c : tie.Else2) {n : ℕ} → FirstIs (drop 1 (table (c .before .before .before .before .before .before))) n → FirstIs (table (c .before .before .before .before .before .before)) n
+past-1 : (c : tie.Else2) {n : ℕ} → FirstIs (drop 1 (table (c .before .before .before .before .before))) n → FirstIs (table (c .before .before .before .before .before)) n
 unfolding openEventTable
 past-1 c i = later-row _ (asked (c .before) ∙ c .if2 .left) i
 
 -- the phase is the one asked for
-phase-off : (c : tie.Else1) → not (isBlock (c .before .before .before .args .s .phase)) ≡ false
+phase-off : (c : tie.Else1) → not (isBlock (c .before .before .args .s .phase)) ≡ false
 phase-off c = rw (c .before .is-block .ensures) at (c .if1 .left)
 
-past-2 : (c : tie.Else3) {n : ℕ} → FirstIs (drop 2 (table (c .before .before .before .before .before .before .before .before))) n → FirstIs (table (c .before .before .before .before .before .before .before .before)) n
+past-2 : (c : tie.Else3) {n : ℕ} → FirstIs (drop 2 (table (c .before .before .before .before .before .before .before))) n → FirstIs (table (c .before .before .before .before .before .before .before)) n
 unfolding openEventTable
 past-2 c i = past-1 (c .before .before) (later-row _ (rw (phase-off (c .before .before .before .before .before)) (c .if3 .left)) i)
 
-past-3 : (c : tie.Else4) {n : ℕ} → FirstIs (drop 3 (table (c .before .before .before .before .before .before .before .before .before .before))) n → FirstIs (table (c .before .before .before .before .before .before .before .before .before .before)) n
+past-3 : (c : tie.Else4) {n : ℕ} → FirstIs (drop 3 (table (c .before .before .before .before .before .before .before .before .before))) n → FirstIs (table (c .before .before .before .before .before .before .before .before .before)) n
 unfolding openEventTable
 past-3 c i = past-2 (c .before .before) (later-row _ (rw (c .before .event-ok .ensures) at (c .if4 .left)) i)
 
 -- ---- the first that is on is the answer
 
-missed : (c : tie.Then1) → not (isBlock (c .before .before .before .args .s .phase)) ≡ true
+missed : (c : tie.Then1) → not (isBlock (c .before .before .args .s .phase)) ≡ true
 missed c = rw (c .before .is-block .ensures) at (c .if1 .taken)
 
 returns : tie.Need-returns
 unfolding openEventNumber openEventTable
-returns c = let turn = c .before in c .out-of-turn .ensures ∙ sym (is-first (turn-missed (stateOk (turn .before .before .before .args .s)) (rw (missed turn))))
+returns c = let turn = c .before in c .out-of-turn .ensures ∙ sym (is-first (turn-missed (stateOk (turn .before .before .args .s)) (rw (missed turn))))
 
 returns-2 : tie.Need-returns-2
 unfolding openEventNumber openEventTable

@@ -22,10 +22,10 @@ table c = postTable (c .args .s) (c .args .room) (c .args .channel) (c .args .wi
 -- ---- past a row that is off, the rest of the table is asked
 
 -- in turn the ranges of the phase are asked
-asked : (c : tie.After-during-ok) → let s = c .before .before .before .before .before .before .before .args .s in not (stateOk s) ≡ (not (c .before .in-range .result) || not (c .during-ok .result))
+asked : (c : tie.After-during-ok) → let s = c .before .before .before .before .before .before .before .args .s in not (stateOk s) ≡ (not (c .before .common-ok .result) || not (c .during-ok .result))
 asked c =
     let turn = c .before .before in
-    ranges-asked _ Event (is-event _ (sym (turn .before .is-event .ensures) ∙ not-false _ (turn .if1 .left))) (c .before .in-range .ensures) (c .during-ok .ensures)
+    ranges-asked _ Event (is-event _ (sym (turn .before .is-event .ensures) ∙ not-false _ (turn .if1 .left))) (c .before .common-ok .ensures) (c .during-ok .ensures)
 
 past-1 : (c : tie.Else2) {n : ℕ} → FirstIs (drop 1 (table (c .before .before .before .before .before .before .before .before))) n → FirstIs (table (c .before .before .before .before .before .before .before .before)) n
 unfolding postTable

@@ -19,7 +19,7 @@ known c = finish-accepted _ _ (sym (c .before .before .finish-check .ensures) âˆ
 
 returns : tie.Need-returns
 returns c =
-    let t = c .before .before .before .before .before .before in
+    let t = c .before .before .before .before .before .before .before in
     let a = t .before .before .before .before .args in
     let k = known t in
     let items = endItems (a .state .settings) (a .state .words) in

@@ -19,7 +19,7 @@ known c = open-block-accepted _ _ _ _ (sym (c .before .before .open-block-check 
 returns : tie.Need-returns
 unfolding withBlock
 returns c =
-    let t = c .before .before .before .before .before in
+    let t = c .before .before .before .before .before .before in
     let a = t .before .before .before .before .args in
     let k = known t in
     let items = blockItems (a .state .settings) (a .number) (a .events) in

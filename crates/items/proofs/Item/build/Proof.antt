@@ -61,10 +61,22 @@ returns-14 : tie.Need-returns-14
 unfolding wordOf
 returns-14 c = c .build14 .ensures ∙ sym (ap wordOf (c .before .before .self14 .given .1))
 
+returns-15 : tie.Need-returns-15
+unfolding wordOf
+returns-15 c = c .build15 .ensures ∙ sym (ap wordOf (c .before .before .self15 .given .1))
+
+returns-16 : tie.Need-returns-16
+unfolding wordOf
+returns-16 c = c .build16 .ensures ∙ sym (ap wordOf (c .before .before .self16 .given .1))
+
 pub build-spec : {M : Type 1} → statement M
 build-spec =
     tie.close
     (tie.spec
+    (λ c. search needs)
+    (λ c κs. tt)
+    (λ c. search needs)
+    (λ c κs. tt)
     (λ c. search needs)
     (λ c κs. tt)
     (λ c. search needs)
@@ -106,4 +118,6 @@ build-spec =
     returns-11
     returns-12
     returns-13
-    returns-14)
+    returns-14
+    returns-15
+    returns-16)

@@ -45,10 +45,20 @@ returns-13 c = simp (c .take-apart13 .ensures, c .before .enum-told13 .given .1)
 returns-14 : tie.Need-returns-14
 returns-14 c = simp (c .take-apart14 .ensures, c .before .enum-told14 .given .1)
 
+returns-15 : tie.Need-returns-15
+returns-15 c = simp (c .take-apart15 .ensures, c .before .enum-told15 .given .1)
+
+returns-16 : tie.Need-returns-16
+returns-16 c = simp (c .take-apart16 .ensures, c .before .enum-told16 .given .1)
+
 pub take-apart-spec : {M : Type 1} → statement M
 take-apart-spec =
     tie.close
     (tie.spec
+    (λ c. search needs)
+    (λ c κs. tt)
+    (λ c. search needs)
+    (λ c κs. tt)
     (λ c. search needs)
     (λ c κs. tt)
     (λ c. search needs)
@@ -90,4 +100,6 @@ take-apart-spec =
     returns-11
     returns-12
     returns-13
-    returns-14)
+    returns-14
+    returns-15
+    returns-16)

@@ -1,8 +1,8 @@
 -- `numbers::load::state_from` meets its contract. Assumes nothing.
 use native.Mathlib.Omega.{arith}
 use borrow.Author.Needs.{needs}
-use Rattle.places.specs.Places.{headCount, marksAt}
-use Rattle.places.specs.PlacesLaws.{state-count, state-settings-held, head-held, tail-part}
+use Rattle.places.specs.Places.{frontCount, marksAt}
+use Rattle.places.specs.PlacesLaws.{state-count, state-settings-held, front-held, tail-part}
 use Rattle.numbers.specs.StoreLaws.{state-loaded}
 use Rattle.numbers.proofs.load.state_from.Statement.{statement}
 use Rattle.numbers.proofs.load.state_from.Tie as tie
@@ -11,18 +11,15 @@ sub-settings-from : tie.Need-sub-settings-from
 sub-settings-from c = omega (arith, state-count _ (c .before .pre))
 
 settings-from-requires : tie.Need-settings-from-requires
-settings-from-requires c κs = rw (tail-part (c .before .before .args .numbers .now) headCount) (state-settings-held _ (c .before .before .pre))
+settings-from-requires c κs = rw (tail-part (c .before .before .args .numbers .now) frontCount) (state-settings-held _ (c .before .before .pre))
 
 marks-from-requires : tie.Need-marks-from-requires
-marks-from-requires c κs = omega (arith, c .at2 .ensures, head-held _ (c .before .before .before .before .before .before .pre) marksAt (omega arith))
+marks-from-requires c κs = omega (arith, c .at2 .ensures, front-held _ (c .before .before .before .before .before .before .before .pre) marksAt (omega arith))
 
 returns : tie.Need-returns
 returns c =
-    let block = c .before .before .before .before .before in
-    let phase = block .before .before .before in
-    let loaded = phase .before .before in
-    let start = loaded .before .before .before in
-    state-loaded (start .args .numbers .now) (start .pre) (loaded .settings-from .ensures) (phase .before .at .ensures) (phase .phase-from .ensures) (block .before .before .at2 .ensures) (block .before .marks-from .ensures) (block .at32 .ensures) (c .before .before .before .before .at322 .ensures) (c .before .before .before .at323 .ensures) (c .before .before .at3 .ensures) (c .before .at324 .ensures) (c .at4 .ensures)
+    let start = c .before .before .before .before .before .before .before .before .before .before .before .before .before .before in
+    state-loaded (start .args .numbers .now) (start .pre) (c .before .before .before .before .before .before .before .before .before .before .before .settings-from .ensures) (c .before .before .before .before .before .before .before .before .before .before .scalers-from .ensures) (c .before .before .before .before .before .before .before .before .before .at .ensures) (c .before .before .before .before .before .before .before .before .phase-from .ensures) (c .before .before .before .before .before .before .before .at2 .ensures) (c .before .before .before .before .before .before .marks-from .ensures) (c .before .before .before .before .before .at32 .ensures) (c .before .before .before .before .at322 .ensures) (c .before .before .before .at323 .ensures) (c .before .before .at3 .ensures) (c .before .at324 .ensures) (c .at4 .ensures)
 
 pub state-from-spec : {M : Type 1} → statement M
 state-from-spec =
@@ -32,14 +29,15 @@ state-from-spec =
     sub-settings-from
     (λ c. search needs)
     settings-from-requires
-    (λ c κs. search (needs, state-count))
+    (λ c κs. c .before .before .before .pre)
+    (λ c κs. omega (arith, state-count _ (c .before .before .before .before .pre)))
     (λ c κs. search needs)
-    (λ c κs. search (needs, state-count))
+    (λ c κs. omega (arith, state-count _ (c .before .before .before .before .before .before .pre)))
     marks-from-requires
-    (λ c κs. search (needs, state-count))
-    (λ c κs. search (needs, state-count))
-    (λ c κs. search (needs, state-count))
-    (λ c κs. search (needs, state-count))
-    (λ c κs. search (needs, state-count))
-    (λ c κs. search (needs, state-count))
+    (λ c κs. omega (arith, state-count _ (c .before .before .before .before .before .before .before .before .pre)))
+    (λ c κs. omega (arith, state-count _ (c .before .before .before .before .before .before .before .before .before .pre)))
+    (λ c κs. omega (arith, state-count _ (c .before .before .before .before .before .before .before .before .before .before .pre)))
+    (λ c κs. omega (arith, state-count _ (c .before .before .before .before .before .before .before .before .before .before .before .pre)))
+    (λ c κs. omega (arith, state-count _ (c .before .before .before .before .before .before .before .before .before .before .before .before .pre)))
+    (λ c κs. omega (arith, state-count _ (c .before .before .before .before .before .before .before .before .before .before .before .before .before .pre)))
     returns)

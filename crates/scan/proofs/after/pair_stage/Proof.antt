@@ -19,16 +19,17 @@ returns-2 : tie.Need-returns-2
 returns-2 c = rw (c .before .before .p2 .given .1) (c .raw-paired .ensures)
 
 -- no other stage changes
-other : (p : Stage) (flag : ℕ) → OneOf (0 ∷ 1 ∷ 2 ∷ 3 ∷ 4 ∷ 5 ∷ 8 ∷ []) (tagOf the-type p) → p ≡ pairedBy p flag
+other : (p : Stage) (flag : ℕ) → OneOf (0 ∷ 1 ∷ 2 ∷ 3 ∷ 4 ∷ 5 ∷ 8 ∷ 9 ∷ []) (tagOf the-type p) → p ≡ pairedBy p flag
 other P.Start flag k = refl
 other P.Head flag k = refl
 other P.Front flag k = refl
 other P.Opened flag k = refl
 other (P.Timed d) flag k = refl
 other P.Items flag k = refl
-other (P.Window n odd) flag k = absurd (miss (0 ∷ 1 ∷ 2 ∷ 3 ∷ 4 ∷ 5 ∷ 8 ∷ []) 6 tt k)
-other (P.Raw n some) flag k = absurd (miss (0 ∷ 1 ∷ 2 ∷ 3 ∷ 4 ∷ 5 ∷ 8 ∷ []) 7 tt k)
+other (P.Window n odd) flag k = absurd (miss (0 ∷ 1 ∷ 2 ∷ 3 ∷ 4 ∷ 5 ∷ 8 ∷ 9 ∷ []) 6 tt k)
+other (P.Raw n some) flag k = absurd (miss (0 ∷ 1 ∷ 2 ∷ 3 ∷ 4 ∷ 5 ∷ 8 ∷ 9 ∷ []) 7 tt k)
 other (P.Tail n) flag k = refl
+other (P.Scalers n) flag k = refl
 
 returns-3 : tie.Need-returns-3
 returns-3 c = other (c .before .args .scan .stage) (c .before .args .flag) (c .match .keys3)

@@ -1,6 +1,6 @@
 -- `scan::after::scan_after` meets its contract.
 use borrow.Author.Needs.{needs}
-use Rattle.framing.specs.Words.{triggerTimeOf}
+use Rattle.framing.specs.Words.{triggerTimeOf, scalersOf}
 use Rattle.raw.specs.Words.{pairOf, windowOf}
 use Rattle.limits.specs.LimitsLaws.{most-pairs}
 use Rattle.scan.specs.After.{after}
@@ -63,6 +63,14 @@ returns-14 : tie.Need-returns-14
 unfolding after
 returns-14 c = simp (c .moved12 .ensures, c .before .filler-stage .ensures, c .before .before .enum-told14 .given .1)
 
+returns-15 : tie.Need-returns-15
+unfolding after scalersOf
+returns-15 c = simp (c .moved13 .ensures, c .before .take4 .ensures, c .before .before .enum-told15 .given .1)
+
+returns-16 : tie.Need-returns-16
+unfolding after
+returns-16 c = simp (c .moved14 .ensures, c .before .scaler-stage .ensures, c .before .before .enum-told16 .given .1)
+
 pub scan-after-spec : {M : Type 1} → statement M
 scan-after-spec =
     tie.close
@@ -101,6 +109,12 @@ scan-after-spec =
     (λ c. search needs)
     (λ c κs. search needs)
     (λ c κs. search needs)
+    (λ c. search needs)
+    (λ c κs. search needs)
+    (λ c κs. search needs)
+    (λ c. search needs)
+    (λ c κs. search needs)
+    (λ c κs. search needs)
     returns
     returns-2
     returns-3
@@ -114,4 +128,6 @@ scan-after-spec =
     returns-11
     returns-12
     returns-13
-    returns-14)
+    returns-14
+    returns-15
+    returns-16)

@@ -1,0 +1,4 @@
+pub mod Face
+pub mod FaceLaws
+pub mod LoadsLaws
+pub mod UniqueLaws

@@ -1,0 +1,4 @@
+pub mod Scalers
+pub mod Inner
+pub mod FrameLaws
+pub mod CountLaws
