@@ -1,4 +1,6 @@
 // The words around a block's events: its header and any parameters word before them, the trailer and the fillers behind.
+#![tactic(auto)]
+
 ghost use Rattle.std.specs.Prelude.{◌≡◌, true, ◌+◌, ◌-◌, ◌≤◌, ◌<◌, ◌^◌, ltb, length, replicate};
 ghost use Rattle.ground.specs.Splice.{Written, WrittenIf};
 ghost use Rattle.settings.specs.Ranges.{settings_ok};

@@ -1,4 +1,6 @@
 // The lines of one block: those of its records, then its fillers, then a refusal.
+#![tactic(auto)]
+
 ghost use Rattle.std.specs.Prelude.{◌≡◌, ◌++◌};
 ghost use Rattle.scan.specs.After.{start_of};
 ghost use Rattle.reader.specs.Reader.{judge_at, read_from, out_of};
@@ -12,7 +14,7 @@ use reader::Judged;
 use scan::Scan;
 
 // What one block leaves: the next place of the text, the bytes that it takes, whether it is whole.
-#[derive(Drop)]
+#[derive(Clone, Copy)]
 pub struct Block {
     pub at: usize,
     pub bytes: usize,
@@ -21,7 +23,7 @@ pub struct Block {
 
 // Behind a word: the next place of the text, the scan, the fillers that it was. Or the block ends before it: the number of the
 // refusal, 0 for none, and its place.
-#[derive(Drop)]
+#[derive(Clone, Copy)]
 enum Turn {
     On(usize, Scan, u64),
     Last(u32, u32),

@@ -1,4 +1,6 @@
 // The check of a block of bytes, big-endian: a refusal and its place, or the words read, in one number.
+#![tactic(auto)]
+
 ghost use Rattle.std.specs.Prelude.{◌≡◌, ◌+◌, ◌*◌, ◌^◌};
 ghost use Rattle.bytecheck.specs.Check.{check_number};
 

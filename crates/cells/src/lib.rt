@@ -1,4 +1,6 @@
 // A record of a block, as numbers for C: its kind, then its fields.
+#![tactic(auto)]
+
 ghost use Rattle.std.specs.Prelude.{◌≡◌};
 ghost use Rattle.cells.specs.Cells.{record_numbers};
 

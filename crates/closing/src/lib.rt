@@ -1,4 +1,6 @@
 // Closing an event: document 01, "One event, one store".
+#![tactic(auto)]
+
 ghost use Rattle.std.specs.Prelude.{◌≡◌, ◌<◌};
 ghost use Rattle.state.specs.State.{with_closed};
 ghost use Rattle.closing.specs.Closing.{CloseSays};

@@ -1,4 +1,6 @@
 // Numbers copied into a lent array from a place on, a function a width. What has no room there is not written.
+#![tactic(auto)]
+
 ghost use Rattle.std.specs.Prelude.{◌+◌, ◌≡◌, leb};
 ghost use Rattle.copies.specs.Copies.{pasted};
 

@@ -1,4 +1,6 @@
 // The calls that count, in every phase: frames, latch, reset.
+#![tactic(auto)]
+
 ghost use Rattle.std.specs.Prelude.{◌≡◌};
 ghost use Rattle.refusals.specs.Refusal.{number_of};
 ghost use Rattle.counting.specs.Counting.{count_number, latch_number, CountSays, LatchSays, ResetSays};

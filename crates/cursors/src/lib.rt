@@ -1,4 +1,6 @@
 // Where the reading of a block stands, as numbers that C lends: asked for, loaded, stored.
+#![tactic(auto)]
+
 ghost use Rattle.std.specs.Prelude.{◌≡◌, get_or};
 ghost use Rattle.cursors.specs.Cursors.{mark_number, stage_number, stage_first, stage_second, cursor_of, is_scan, stage_from, scan_from, scan_stored};
 

@@ -1,4 +1,6 @@
 // What stands for C where there is no record: a call was refused, or the block has ended.
+#![tactic(auto)]
+
 ghost use Rattle.std.specs.Prelude.{◌≡◌};
 ghost use Rattle.ends.specs.Ends.{end_numbers, no_numbers};
 

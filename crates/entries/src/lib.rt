@@ -1,4 +1,6 @@
 // One record of a listing: its lines, by what follows it.
+#![tactic(auto)]
+
 ghost use Rattle.std.specs.Prelude.{◌≡◌, ◌≤◌, get_or};
 ghost use Rattle.reader.specs.Reader.{read_from};
 ghost use Rattle.fields.specs.Bytes.{words_of_bytes};

@@ -1,4 +1,6 @@
 // One 32-bit word: a field put in and taken out by shifts and masks, the tag on top, and a word as four big-endian bytes.
+#![tactic(auto)]
+
 ghost use Rattle.std.specs.Prelude.{◌≡◌};
 ghost use Rattle.fields.specs.Word.{field_at, put_at};
 ghost use Rattle.fields.specs.Tag.{is_defining, is_continuation};

@@ -1,4 +1,6 @@
 // The finder as it is called: document 01, "One event, one store".
+#![tactic(auto)]
+
 ghost use Rattle.std.specs.Prelude.{◌≡◌};
 ghost use Rattle.refusals.specs.Refusal.{number_of};
 ghost use Rattle.find.specs.Call.{find_number, FindSays};
@@ -8,7 +10,7 @@ use refusals::Refusal;
 use settings::Settings;
 
 // The finder's answer: a refused call has no pulses.
-#[derive(Drop)]
+#[derive(Clone, Copy)]
 pub struct FindAnswer {
     pub refusal: Refusal,
     pub found: Pulses,

@@ -1,4 +1,6 @@
 // The pulse finder: document 01, "Finding pulses".
+#![tactic(auto)]
+
 ghost use Rattle.std.specs.Prelude.{◌≡◌, cond, ◌&&◌, ◌≤◌, [], length};
 ghost use Rattle.limits.specs.Limits.{most_samples};
 ghost use Rattle.settings.specs.Ranges.{most_nsa, most_limit};
@@ -16,7 +18,7 @@ use settings::{LIMIT_MAX, NSA_MAX};
 use timing::{Base, Rule, Time};
 
 // A pulse: its TC, the first and the last sample of its data set, the sum over the set before any cap, its time.
-#[derive(Drop)]
+#[derive(Clone, Copy)]
 pub struct Pulse {
     pub tc: usize,
     pub first: usize,
@@ -26,7 +28,7 @@ pub struct Pulse {
 }
 
 // The first `count` are pulses, the others are all zeros.
-#[derive(Drop)]
+#[derive(Clone, Copy)]
 pub struct Pulses {
     pub count: usize,
     pub pulses: [Pulse; 3],

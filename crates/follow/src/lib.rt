@@ -1,4 +1,6 @@
 // What follows a record's first word: the second time word, the other fillers.
+#![tactic(auto)]
+
 ghost use Rattle.std.specs.Prelude.{◌≡◌, drop};
 ghost use Rattle.follow.specs.Follow.{high_of, high_from, fill_from};
 
@@ -8,14 +10,14 @@ use reader::{Judged, Step};
 use scan::Scan;
 
 // The second time word and the scan behind it, if one follows.
-#[derive(Drop)]
+#[derive(Clone, Copy)]
 pub enum High {
     Nothing,
     Word(TriggerTimeHigh, Scan),
 }
 
 // How many fillers, and the scan behind them.
-#[derive(Drop)]
+#[derive(Clone, Copy)]
 pub struct Fill {
     pub count: u32,
     pub scan: Scan,

@@ -5,7 +5,7 @@ ghost use Rattle.fields.specs.Word.{fit, pack};
 ghost use Rattle.fields.specs.Tag.{is_defining};
 ghost use Rattle.framing.specs.Words.{block_header, block_header_of, block_header_fixed, block_header_within};
 
-#[derive(Drop)]
+#[derive(Clone, Copy)]
 pub struct BlockHeader {
     pub slot: u32,
     pub number: u32,

@@ -5,7 +5,7 @@ ghost use Rattle.fields.specs.Word.{fit, pack};
 ghost use Rattle.fields.specs.Tag.{is_defining};
 ghost use Rattle.framing.specs.Words.{event_header, event_header_of};
 
-#[derive(Drop)]
+#[derive(Clone, Copy)]
 pub struct EventHeader {
     pub slot: u32,
     pub number: u32,

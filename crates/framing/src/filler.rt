@@ -5,7 +5,7 @@ ghost use Rattle.fields.specs.Word.{fit, pack};
 ghost use Rattle.fields.specs.Tag.{is_defining};
 ghost use Rattle.framing.specs.Words.{filler, filler_of};
 
-#[derive(Drop)]
+#[derive(Clone, Copy)]
 pub struct Filler {
     pub slot: u32,
 }

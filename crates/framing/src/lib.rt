@@ -1,6 +1,8 @@
 // The words around the channels: block header, parameters, trailer, event header, trigger time, an event's scalers, module
 // empty and filler.
 // One module a record type: its tag, its largest fields, and how it is built, taken apart and known.
+#![tactic(auto)]
+
 pub mod block_header;
 pub mod empty;
 pub mod event_header;

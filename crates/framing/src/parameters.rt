@@ -5,7 +5,7 @@ ghost use Rattle.fields.specs.Word.{fit, pack};
 ghost use Rattle.fields.specs.Tag.{is_continuation};
 ghost use Rattle.framing.specs.Words.{parameters, parameters_of, parameters_fixed};
 
-#[derive(Drop)]
+#[derive(Clone, Copy)]
 pub struct Parameters {
     pub pl: u32,
     pub nsb: u32,

@@ -4,7 +4,7 @@ ghost use Rattle.std.specs.Prelude.{◌≡◌};
 ghost use Rattle.fields.specs.Word.{fit, pack};
 ghost use Rattle.framing.specs.Words.{scaler, scaler_of};
 
-#[derive(Drop)]
+#[derive(Clone, Copy)]
 pub struct ScalerWord {
     pub value: u32,
 }

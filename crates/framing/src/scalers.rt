@@ -3,9 +3,9 @@
 ghost use Rattle.std.specs.Prelude.{◌≡◌};
 ghost use Rattle.fields.specs.Word.{fit, pack};
 ghost use Rattle.fields.specs.Tag.{is_defining};
-ghost use Rattle.framing.specs.Words.{scalers, scalers_of};
+ghost use Rattle.framing.specs.Words.{scalers, scalers_of, scalers_fixed};
 
-#[derive(Drop)]
+#[derive(Clone, Copy)]
 pub struct ScalerHeader {
     pub count: u32,
 }
@@ -43,5 +43,12 @@ impl ScalerHeader {
         ensures { result ≡ is_defining 12 word }
     {
         fields::is_defining(word, Self::TAG)
+    }
+
+    // Whether the bits that are shown zero are zero.
+    pub fn fixed(word: u32) -> bool
+        ensures { result ≡ scalers_fixed word }
+    {
+        fields::take(word, 6, 21) == 0
     }
 }

@@ -5,7 +5,7 @@ ghost use Rattle.fields.specs.Word.{fit, pack};
 ghost use Rattle.fields.specs.Tag.{is_defining};
 ghost use Rattle.framing.specs.Words.{trailer, trailer_of};
 
-#[derive(Drop)]
+#[derive(Clone, Copy)]
 pub struct BlockTrailer {
     pub slot: u32,
     pub words: u32,

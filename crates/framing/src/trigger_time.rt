@@ -5,7 +5,7 @@ ghost use Rattle.fields.specs.Word.{fit, pack};
 ghost use Rattle.fields.specs.Tag.{is_defining};
 ghost use Rattle.framing.specs.Words.{trigger_time, trigger_time_of};
 
-#[derive(Drop)]
+#[derive(Clone, Copy)]
 pub struct TriggerTime {
     pub middle: u32,
     pub low: u32,

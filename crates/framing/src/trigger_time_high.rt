@@ -5,7 +5,7 @@ ghost use Rattle.fields.specs.Word.{fit, pack};
 ghost use Rattle.fields.specs.Tag.{is_continuation};
 ghost use Rattle.framing.specs.Words.{trigger_time_high, trigger_time_high_of, trigger_time_high_fixed};
 
-#[derive(Drop)]
+#[derive(Clone, Copy)]
 pub struct TriggerTimeHigh {
     pub high: u32,
 }

@@ -1,5 +1,7 @@
 // The words that most blocks are full of: pairs of two samples inside a raw item, and measures one after another. They are
 // known at a glance, and have one line each; any other word is left to the reader.
+#![tactic(auto)]
+
 ghost use Rattle.std.specs.Prelude.{◌≡◌};
 ghost use Rattle.written.specs.Page.{put};
 ghost use Rattle.written.specs.Line.{line_text};
@@ -13,13 +15,13 @@ use raw::pair::SamplePair;
 use scan::{Scan, Stage};
 
 // Behind a word that is known: the next place of the text, and the scan. Or another word.
-#[derive(Drop)]
+#[derive(Clone, Copy)]
 pub enum Known {
     Took(usize, Scan),
     Other,
 }
 
-#[derive(Drop)]
+#[derive(Clone, Copy)]
 enum Kind {
     Pair,
     Integral,
@@ -28,7 +30,7 @@ enum Kind {
 }
 
 // The word's kind and the scan behind it, or another word.
-#[derive(Drop)]
+#[derive(Clone, Copy)]
 enum Quick {
     Took(Kind, Scan),
     Other,
@@ -52,7 +54,7 @@ fn measure(scan: Scan, word: u32) -> Quick
     if PulsePedestal::is(word) {
         return Quick::Took(Kind::Pedestal, after);
     }
-    if PulseTime::is(word) & types::zeros_clear(PulseTime::TAG, word) {
+    if PulseTime::is(word) & PulseTime::fixed(word) {
         return Quick::Took(Kind::Time, after);
     }
     Quick::Other

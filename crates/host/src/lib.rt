@@ -1,5 +1,7 @@
 // What C links to write: the calls over numbers that the host lends. The numbers are loaded, the call is made, and an accepted
 // one stores what it changed. Numbers that are no state are loaded as what stands for none, which the call refuses with 10.
+#![tactic(auto)]
+
 ghost use Rattle.std.specs.Prelude.{◌≡◌, ◌≤◌, length, true, false};
 ghost use Rattle.refusals.specs.Refusal.{number_of};
 ghost use Rattle.places.specs.Places.{front_count};

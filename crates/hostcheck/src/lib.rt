@@ -1,5 +1,7 @@
 // What C links to check: a block of bytes. It is an object of its own, so that its step over a word has one caller and is
 // compiled in its place.
+#![tactic(auto)]
+
 ghost use Rattle.std.specs.Prelude.{◌≡◌};
 ghost use Rattle.bytecheck.specs.Check.{check_number};
 

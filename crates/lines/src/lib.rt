@@ -1,4 +1,6 @@
 // The line of each record, put on a page.
+#![tactic(auto)]
+
 ghost use Rattle.std.specs.Prelude.{◌≡◌, cond, ◌≤◌, eqb};
 ghost use Rattle.written.specs.Page.{put};
 ghost use Rattle.written.specs.Line.{line_text, text_of};
@@ -21,7 +23,7 @@ use raw::window::WindowRaw;
 const BIT_24: u64 = 16777216;
 
 // What follows a first time word: a second with time bits 47-24, or none.
-#[derive(Drop)]
+#[derive(Clone, Copy)]
 pub enum Second {
     Nothing,
     High(u32),

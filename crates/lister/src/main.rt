@@ -1,11 +1,13 @@
 // Lists standard input, the bytes of blocks, on standard output: a line a record. What fails is told on standard error.
+#![tactic(auto)]
+
 ghost use Rattle.lister.specs.Within.{Within};
 
 use libc::{STDERR_FILENO, STDIN_FILENO, STDOUT_FILENO};
 use listing::{LONGEST, Listed};
 
 // How many bytes were read; or that reading failed.
-#[derive(Drop)]
+#[derive(Clone, Copy)]
 enum Input {
     Bytes(usize),
     Failed,

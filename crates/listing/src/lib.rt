@@ -1,4 +1,6 @@
 // The lister: the lines of the records of an input, as text in a lent buffer.
+#![tactic(auto)]
+
 ghost use Rattle.std.specs.Prelude.{◌≡◌};
 ghost use Rattle.fields.specs.Bytes.{words_of_bytes};
 ghost use Rattle.written.specs.Page.{put};
@@ -15,7 +17,7 @@ pub const LONGEST: usize = 65536;
 const WORD_MOST: usize = 23;
 
 // The text's length; or, where the lent buffer is too short for it, the length that it needs.
-#[derive(Drop)]
+#[derive(Clone, Copy)]
 pub enum Listed {
     Text(usize),
     NoRoom(usize),

@@ -1,6 +1,7 @@
 // What a word is: by where it stands, bit 31 and its type.
-ghost use Rattle.std.specs.Prelude.{◌≡◌, true, cond, [], ◌∷◌, eqb};
-ghost use Rattle.types.specs.Types.{is_allowed};
+#![tactic(auto)]
+
+ghost use Rattle.std.specs.Prelude.{◌≡◌, cond, [], ◌∷◌, eqb};
 ghost use Rattle.meaning.specs.Meaning.{scaler_or, more_in, edges, inner, opening, allowed_in, other_in, meaning_in, meaning_at, unfinished};
 
 use framing::block_header::BlockHeader;
@@ -19,7 +20,7 @@ use raw::window::WindowRaw;
 use scan::{Scan, Stage};
 
 // What a word is at a place: a record of that form, one that may not stand here, or the block ends before it.
-#[derive(Drop)]
+#[derive(Clone, Copy)]
 pub enum Meaning {
     Form(Form),
     Unallowed,
@@ -148,28 +149,9 @@ fn scalers_meaning(n: u32, tag: u32) -> Meaning
     }
 }
 
-// A defining word that the list has not: behind the trailer the block ends before it, among the scalers it is one of theirs.
-fn other_meaning(scan: Scan) -> Meaning
-    ensures { result ≡ other_in scan }
-{
-    let p = scan.stage;
-    match p {
-        Stage::Start => Meaning::Unallowed,
-        Stage::Head => Meaning::Unallowed,
-        Stage::Front => Meaning::Unallowed,
-        Stage::Opened => Meaning::Unallowed,
-        Stage::Timed(_) => Meaning::Unallowed,
-        Stage::Items => Meaning::Unallowed,
-        Stage::Window(_, _) => Meaning::Unallowed,
-        Stage::Raw(_, _) => Meaning::Unallowed,
-        Stage::Tail(_) => Meaning::End,
-        Stage::Scalers(n) => scaler_or(n),
-    }
-}
-
-// A defining word of a type that the list has; of any other nothing is said here.
-fn stage_meaning(scan: Scan, tag: u32) -> Meaning
-    ensures { is_allowed tag ≡ true → result ≡ meaning_in (other_in scan) (allowed_in scan) tag }
+// A defining word of that type.
+fn type_meaning(scan: Scan, tag: u32) -> Meaning
+    ensures { result ≡ meaning_in (other_in scan) (allowed_in scan) tag }
 {
     let p = scan.stage;
     match p {
@@ -183,19 +165,6 @@ fn stage_meaning(scan: Scan, tag: u32) -> Meaning
         Stage::Raw(_, some) => raw_meaning(some, tag),
         Stage::Tail(n) => tail_meaning(n, tag),
         Stage::Scalers(n) => scalers_meaning(n, tag),
-    }
-}
-
-// A defining word of that type: the stage says what it is here, and its row whether the list has it at all. Behind the stage, where
-// the compiler knows the type of a word that may stand, the row costs such a word nothing.
-fn type_meaning(scan: Scan, tag: u32) -> Meaning
-    ensures { result ≡ meaning_in (other_in scan) (allowed_in scan) tag }
-{
-    let here = stage_meaning(scan, tag);
-    if types::is_allowed(tag) {
-        here
-    } else {
-        other_meaning(scan)
     }
 }
 

@@ -1,4 +1,6 @@
 // What is measured of a pulse: integral, time and pedestal. One module a record type.
+#![tactic(auto)]
+
 pub mod integral;
 pub mod pedestal;
 pub mod time;

@@ -5,7 +5,7 @@ ghost use Rattle.fields.specs.Word.{fit, pack};
 ghost use Rattle.fields.specs.Tag.{is_defining};
 ghost use Rattle.measures.specs.Words.{pedestal, pedestal_of};
 
-#[derive(Drop)]
+#[derive(Clone, Copy)]
 pub struct PulsePedestal {
     pub channel: u32,
     pub pulse: u32,

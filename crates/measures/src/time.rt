@@ -3,9 +3,9 @@
 ghost use Rattle.std.specs.Prelude.{◌≡◌};
 ghost use Rattle.fields.specs.Word.{fit, pack};
 ghost use Rattle.fields.specs.Tag.{is_defining};
-ghost use Rattle.measures.specs.Words.{time, time_of};
+ghost use Rattle.measures.specs.Words.{time, time_of, time_fixed};
 
-#[derive(Drop)]
+#[derive(Clone, Copy)]
 pub struct PulseTime {
     pub channel: u32,
     pub pulse: u32,
@@ -66,5 +66,12 @@ impl PulseTime {
         ensures { result ≡ is_defining 8 word }
     {
         fields::is_defining(word, Self::TAG)
+    }
+
+    // Whether the bits that are shown zero are zero.
+    pub fn fixed(word: u32) -> bool
+        ensures { result ≡ time_fixed word }
+    {
+        fields::take(word, 15, 4) == 0
     }
 }

@@ -1,4 +1,6 @@
 // What a mode writes of a channel, and how many words that is.
+#![tactic(auto)]
+
 mod count;
 
 ghost use Rattle.std.specs.Prelude.{◌≡◌, true, cond, ◌≤◌, leb, length};

@@ -1,4 +1,6 @@
 // Where each number of settings and of a state stands, which numbers are settings, and which are a state.
+#![tactic(auto)]
+
 ghost use Rattle.std.specs.Prelude.{◌≡◌, length, take};
 ghost use Rattle.ground.specs.Tests.{all_le};
 ghost use Rattle.places.specs.Places.{thresholds_at, most32, settings_limits, head_limits, scaler_limits, held_in, is_settings, is_state};

@@ -1,4 +1,6 @@
 // The words of one pulse, put into a lent buffer.
+#![tactic(auto)]
+
 mod measure;
 
 ghost use Rattle.std.specs.Prelude.{◌≡◌, cond, [], ◌+◌, ◌≤◌, length};
@@ -14,7 +16,7 @@ use items::put::room_short;
 use raw::pulse_raw::PulseRaw;
 
 // What a mode writes: the window, and of each pulse its samples, integral, time (high-resolution or TC) and pedestal.
-#[derive(Drop)]
+#[derive(Clone, Copy)]
 pub struct Parts {
     pub window: bool,
     pub raw: bool,

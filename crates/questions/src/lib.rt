@@ -1,26 +1,21 @@
 // What is asked of a word, in the paper's order: the limit, whether it may stand here, its slot, its bits, its count.
+#![tactic(auto)]
+
 ghost use Rattle.std.specs.Prelude.{◌≡◌, not, cond, ◌&&◌, ◌||◌, [], ◌∷◌, eqb, drop};
 ghost use Rattle.ground.specs.Tests.{first_of};
 ghost use Rattle.fields.specs.Word.{read};
 ghost use Rattle.framing.specs.Words.{block_header_of, block_header_fixed, block_header_within};
-ghost use Rattle.raw.specs.Words.{window_of, window_within, pair_fixed};
-ghost use Rattle.types.specs.Types.{has_slot, zeros_clear};
+ghost use Rattle.raw.specs.Words.{window_of, window_fixed, window_within, pair_fixed};
 ghost use Rattle.items.specs.Items.{item_from, fixed_in};
 ghost use Rattle.questions.specs.Questions.{at_limit, time_wrong, flag_wrong, item_wrong, count_wrong, refusals};
 
 use framing::block_header::BlockHeader;
-use framing::empty::ModuleEmpty;
-use framing::event_header::EventHeader;
-use framing::filler::Filler;
 use framing::parameters::Parameters;
 use framing::scalers::ScalerHeader;
 use framing::trailer::BlockTrailer;
-use framing::trigger_time::TriggerTime;
 use framing::trigger_time_high::TriggerTimeHigh;
 use items::Form;
 use meaning::Meaning;
-use measures::integral::PulseIntegral;
-use measures::pedestal::PulsePedestal;
 use measures::time::PulseTime;
 use raw::pair::SamplePair;
 use raw::pulse_raw::PulseRaw;
@@ -39,6 +34,12 @@ pub fn at_limit(scan: Scan) -> bool
     } else {
         false
     }
+}
+
+fn slot_wrong(scan: Scan, word: u32) -> bool
+    ensures { result ≡ not (eqb (read 26 22 word) scan.slot) }
+{
+    fields::take(word, 22, 5) != scan.slot
 }
 
 fn block_wrong(word: u32) -> bool
@@ -65,11 +66,11 @@ fn high_wrong(scan: Scan, word: u32) -> bool
     !TriggerTimeHigh::fixed(word) | time_wrong(scan, time.high)
 }
 
-fn width_wrong(word: u32) -> bool
-    ensures { result ≡ not (window_within (window_of word)) }
+fn window_wrong(word: u32) -> bool
+    ensures { result ≡ not (window_fixed word) || not (window_within (window_of word)) }
 {
     let window = WindowRaw::take_apart(word);
-    !window.within()
+    !WindowRaw::fixed(word) | !window.within()
 }
 
 // The flag that a window's pair must have: only the last of an odd width has it.
@@ -132,48 +133,27 @@ fn first_wrong(slot: bool, bits: bool, count: bool) -> u32
     }
 }
 
-// What the row of the type asks, and beside it the limits and the count of the record.
-fn row_refusal(scan: Scan, tag: u32, word: u32, limit: bool, count: bool) -> u32
-    ensures { result ≡ first_of ((15, has_slot tag && not (eqb (read 26 22 word) scan.slot)) ∷ (13, not (zeros_clear tag word) || limit) ∷ (14, count) ∷ []) }
-{
-    let slot = types::slot_differs(tag, word, scan.slot);
-    first_wrong(slot, !types::zeros_clear(tag, word) | limit, count)
-}
-
-// The same of a first word: it states the slot, which is compared with nothing.
-fn first_refusal(tag: u32, word: u32, limit: bool) -> u32
-    ensures { result ≡ first_of ((13, not (zeros_clear tag word) || limit) ∷ []) }
-{
-    first_wrong(false, !types::zeros_clear(tag, word) | limit, false)
-}
-
-// What is asked of a word that may stand here: the number of the first question that refuses, 0 where none does. A defining word is
-// asked by the row of its type; a continuation has none, and is asked by its record.
+// What is asked of a word that may stand here: the number of the first question that refuses, 0 where none does. A form is
+// asked only what it can answer wrong.
 pub fn refusal(scan: Scan, form: Form, word: u32) -> u32
     ensures { result ≡ first_of (drop 2 (refusals scan (Meaning.Form form) word)) }
 {
     match form {
-        Form::Block => first_refusal(BlockHeader::TAG, word, block_wrong(word)),
+        Form::Block => first_wrong(false, block_wrong(word), false),
         Form::Parameters => first_wrong(false, !Parameters::fixed(word), false),
-        Form::Trailer => row_refusal(
-            scan,
-            BlockTrailer::TAG,
-            word,
-            false,
-            trailer_wrong(scan, word),
-        ),
-        Form::Event => row_refusal(scan, EventHeader::TAG, word, false, scan.left == 0),
-        Form::Clock => row_refusal(scan, TriggerTime::TAG, word, false, false),
+        Form::Trailer => first_wrong(slot_wrong(scan, word), false, trailer_wrong(scan, word)),
+        Form::Event => first_wrong(slot_wrong(scan, word), false, scan.left == 0),
+        Form::Clock => 0,
         Form::ClockHigh => first_wrong(false, high_wrong(scan, word), false),
-        Form::Window => row_refusal(scan, WindowRaw::TAG, word, width_wrong(word), false),
-        Form::Raw => row_refusal(scan, PulseRaw::TAG, word, false, false),
+        Form::Window => first_wrong(false, window_wrong(word), false),
+        Form::Raw => first_wrong(false, !PulseRaw::fixed(word), false),
         Form::Pair => first_wrong(false, pair_wrong(scan, word), false),
-        Form::Integral => row_refusal(scan, PulseIntegral::TAG, word, false, false),
-        Form::Time => row_refusal(scan, PulseTime::TAG, word, false, false),
-        Form::Pedestal => row_refusal(scan, PulsePedestal::TAG, word, false, false),
-        Form::Empty => first_refusal(ModuleEmpty::TAG, word, false),
-        Form::Filler => row_refusal(scan, Filler::TAG, word, false, false),
-        Form::Scalers => row_refusal(scan, ScalerHeader::TAG, word, false, false),
+        Form::Integral => 0,
+        Form::Time => first_wrong(false, !PulseTime::fixed(word), false),
+        Form::Pedestal => 0,
+        Form::Empty => 0,
+        Form::Filler => first_wrong(slot_wrong(scan, word), false, false),
+        Form::Scalers => first_wrong(false, !ScalerHeader::fixed(word), false),
         Form::Scaler => 0,
     }
 }

@@ -1,4 +1,6 @@
 // Samples as they came: a window, a pulse's data set, and the pairs behind both. One module a record type.
+#![tactic(auto)]
+
 pub mod pair;
 pub mod pulse_raw;
 pub mod window;

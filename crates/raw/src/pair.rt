@@ -5,7 +5,7 @@ ghost use Rattle.fields.specs.Word.{fit, pack};
 ghost use Rattle.fields.specs.Tag.{is_continuation};
 ghost use Rattle.raw.specs.Words.{pair, pair_of, pair_fixed};
 
-#[derive(Drop)]
+#[derive(Clone, Copy)]
 pub struct SamplePair {
     pub nofirst: u32,
     pub first: u32,

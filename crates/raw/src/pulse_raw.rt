@@ -3,9 +3,9 @@
 ghost use Rattle.std.specs.Prelude.{◌≡◌};
 ghost use Rattle.fields.specs.Word.{fit, pack};
 ghost use Rattle.fields.specs.Tag.{is_defining};
-ghost use Rattle.raw.specs.Words.{pulse_raw, pulse_raw_of};
+ghost use Rattle.raw.specs.Words.{pulse_raw, pulse_raw_of, pulse_raw_fixed};
 
-#[derive(Drop)]
+#[derive(Clone, Copy)]
 pub struct PulseRaw {
     pub channel: u32,
     pub pulse: u32,
@@ -54,5 +54,12 @@ impl PulseRaw {
         ensures { result ≡ is_defining 6 word }
     {
         fields::is_defining(word, Self::TAG)
+    }
+
+    // Whether the bits that are shown zero are zero.
+    pub fn fixed(word: u32) -> bool
+        ensures { result ≡ pulse_raw_fixed word }
+    {
+        fields::take(word, 10, 11) == 0
     }
 }

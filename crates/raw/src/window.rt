@@ -3,9 +3,9 @@
 ghost use Rattle.std.specs.Prelude.{◌≡◌};
 ghost use Rattle.fields.specs.Word.{fit, pack};
 ghost use Rattle.fields.specs.Tag.{is_defining};
-ghost use Rattle.raw.specs.Words.{window, window_of, window_within};
+ghost use Rattle.raw.specs.Words.{window, window_of, window_fixed, window_within};
 
-#[derive(Drop)]
+#[derive(Clone, Copy)]
 pub struct WindowRaw {
     pub channel: u32,
     pub width: u32,
@@ -58,5 +58,12 @@ impl WindowRaw {
         ensures { result ≡ is_defining 4 word }
     {
         fields::is_defining(word, Self::TAG)
+    }
+
+    // Whether the bits that are shown zero are zero.
+    pub fn fixed(word: u32) -> bool
+        ensures { result ≡ window_fixed word }
+    {
+        fields::take(word, 12, 11) == 0
     }
 }

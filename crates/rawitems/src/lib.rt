@@ -1,5 +1,7 @@
 // A raw item's pairs: type 4 has those of its width, type 6 as many as follow; an event's scalers: as many words as stated; and their part of the
 // caller's words.
+#![tactic(auto)]
+
 ghost use Rattle.std.specs.Prelude.{[], ◌≡◌, drop};
 ghost use Rattle.rawitems.specs.Pairs.{pair_due, pairs_from, part_of};
 
@@ -8,14 +10,14 @@ use reader::Step;
 use scan::{Scan, Stage};
 
 // Where a raw item's pairs stand, or the words of an event's scalers: the place of the first, and how many.
-#[derive(Drop)]
+#[derive(Clone, Copy)]
 pub struct Pairs {
     pub place: u32,
     pub count: u32,
 }
 
 // The pairs of a raw item, or the words of an event's scalers: all of them and the scan behind, or a refusal and its place.
-#[derive(Drop)]
+#[derive(Clone, Copy)]
 pub enum Pairing {
     All(u32, Scan),
     Bad(u32, u32),

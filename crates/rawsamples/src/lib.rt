@@ -1,4 +1,6 @@
 // The samples of a raw item, unpacked from its pairs into a lent array. What has no room is counted and not written.
+#![tactic(auto)]
+
 ghost use Rattle.std.specs.Prelude.{◌<◌, ◌≡◌};
 ghost use Rattle.written.specs.Page.{put};
 ghost use Rattle.rawitems.specs.Pairs.{part_of};

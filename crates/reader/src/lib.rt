@@ -1,4 +1,6 @@
 // Reads a block of the format word by word: what one word does to the scan.
+#![tactic(auto)]
+
 ghost use Rattle.std.specs.Prelude.{◌≡◌, drop};
 ghost use Rattle.ground.specs.Tests.{first_of};
 ghost use Rattle.questions.specs.Questions.{refusals};
@@ -14,7 +16,7 @@ mod window;
 
 // What one word does: it is of that form and the scan goes on, it is refused with a number at its place, or the block ends
 // before it.
-#[derive(Drop)]
+#[derive(Clone, Copy)]
 pub enum Step {
     Went(Form, Scan),
     Refused(u32, u32),
@@ -22,7 +24,7 @@ pub enum Step {
 }
 
 // The same with the word's record.
-#[derive(Drop)]
+#[derive(Clone, Copy)]
 pub enum Judged {
     Took(Item, Scan),
     Refused(u32, u32),

@@ -1,4 +1,6 @@
 // Reads a block from C, record by record: the scan's numbers are loaded, and an accepted call stores them and fills in the record's.
+#![tactic(auto)]
+
 ghost use Rattle.std.specs.Prelude.{◌≡◌};
 ghost use Rattle.ends.specs.Ends.{no_numbers};
 ghost use Rattle.reading.specs.Reading.{room_for, told_by, record_of, record_stored, NextFace};

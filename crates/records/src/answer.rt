@@ -16,7 +16,7 @@ use raw::window::WindowRaw;
 use rawitems::Pairs;
 use scan::Scan;
 
-#[derive(Drop)]
+#[derive(Clone, Copy)]
 pub enum Record {
     Block(BlockHeader),
     Parameters(Parameters),
@@ -43,7 +43,7 @@ pub enum Record {
 }
 
 // A record and the scan behind it; the block's end and its words; or a refusal and its place.
-#[derive(Drop)]
+#[derive(Clone, Copy)]
 pub enum Next {
     Took(Record, Scan),
     End(u32),

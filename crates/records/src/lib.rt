@@ -1,4 +1,6 @@
 // Reads a block record by record, over the caller's words.
+#![tactic(auto)]
+
 ghost use Rattle.std.specs.Prelude.{◌≡◌, drop};
 ghost use Rattle.reader.specs.Reader.{end_number};
 ghost use Rattle.records.specs.Next.{time_from, fillers_from, record_from, ended};

@@ -1,10 +1,12 @@
 // The refusals, and the paper's number of each.
+#![tactic(auto)]
+
 ghost use Rattle.std.specs.Prelude.{◌≡◌, eqb};
 ghost use Rattle.refusals.specs.Refusal.{number_of, bad_array, or_else};
 
 // Why a call, a word or an input is refused; `None` where it is not. The paper's numbers are 0 to 16 in this
 // order, and 19.
-#[derive(Drop)]
+#[derive(Clone, Copy)]
 pub enum Refusal {
     None,
     // a setting out of range

@@ -1,6 +1,8 @@
 // Which refusal a call is given: the rows of its table are asked in the paper's order, and none that an earlier one makes needless.
 // The phase alone is asked before the state's ranges: a call in turn then asks only those of any phase and of its own, in
 // place.
+#![tactic(auto)]
+
 ghost use Rattle.std.specs.Prelude.{◌≡◌, cond, ◌*◌, ltb};
 ghost use Rattle.refusals.specs.Refusal.{number_of};
 ghost use Rattle.state.specs.State.{state_ok};

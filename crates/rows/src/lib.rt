@@ -1,4 +1,6 @@
 // The store that is lent: a row of samples for each channel, and the marks of those posted.
+#![tactic(auto)]
+
 ghost use Rattle.std.specs.Prelude.{◌≡◌, not, ◌&&◌, ◌||◌};
 ghost use Rattle.samples.specs.Sample.{samples_ok};
 ghost use Rattle.rows.specs.Rows.{lent_ok, rows_ok};

@@ -8,7 +8,7 @@ use framing::trigger_time::TriggerTime;
 use framing::trigger_time_high::TriggerTimeHigh;
 
 // How far it went, and the event headers still to come.
-#[derive(Drop)]
+#[derive(Clone, Copy)]
 pub(crate) struct Events {
     pub next: usize,
     pub left: u32,
@@ -45,7 +45,7 @@ fn head_end(bytes: &[u8], k: usize, end: usize, slot: u32) -> usize
         return k;
     }
     let head = crate::joined_at(bytes, k);
-    if EventHeader::is(head) & !types::slot_differs(EventHeader::TAG, head, slot) {
+    if EventHeader::is(head) & (fields::take(head, 22, 5) == slot) {
         let low = crate::joined_at(bytes, k + 1);
         let high = crate::joined_at(bytes, k + 2);
         return k + head_size(low, high);

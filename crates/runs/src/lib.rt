@@ -1,5 +1,7 @@
 // The check inside events many words at a time: measures, windows, data sets, and the heads of events. Whatever else stands
 // there is left to the reader's step of one word, and so is every refusal.
+#![tactic(auto)]
+
 ghost use Rattle.std.specs.Prelude.{◌≡◌, true, ◌+◌, ◌*◌, ◌≤◌, ◌<◌, min, length, get_or};
 ghost use Rattle.fields.specs.Bytes.{words_of_bytes};
 ghost use Rattle.runs.specs.Runs.{Behind, Passed, Onward};
@@ -15,7 +17,7 @@ mod sets;
 const PLACE_MAX: u32 = BlockTrailer::WORDS_MAX;
 
 // A scan, and the number of its next word.
-#[derive(Drop)]
+#[derive(Clone, Copy)]
 pub struct Place {
     pub scan: Scan,
     pub next: usize,

@@ -15,13 +15,13 @@ use raw::window::WindowRaw;
 pub(crate) fn is_window(word: u32) -> bool
     ensures { result ≡ (is_defining 4 word && window_fixed word) }
 {
-    WindowRaw::is(word) & types::zeros_clear(WindowRaw::TAG, word)
+    WindowRaw::is(word) & WindowRaw::fixed(word)
 }
 
 pub(crate) fn is_raw(word: u32) -> bool
     ensures { result ≡ raw_head word }
 {
-    PulseRaw::is(word) & types::zeros_clear(PulseRaw::TAG, word)
+    PulseRaw::is(word) & PulseRaw::fixed(word)
 }
 
 fn single_at(bytes: &[u8], k: usize) -> bool

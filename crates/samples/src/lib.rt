@@ -1,4 +1,6 @@
 // What a sample is.
+#![tactic(auto)]
+
 ghost use Rattle.std.specs.Prelude.{◌≡◌, ◌≤◌};
 ghost use Rattle.samples.specs.Sample.{samples_ok, amp, most_amp, is_over};
 

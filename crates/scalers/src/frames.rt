@@ -12,7 +12,7 @@ use std::num::wrapping_add_u32;
 pub(crate) const MOST_SEEN: usize = 65536;
 
 // How often each channel rose, and whether it is over in the last frame.
-#[derive(Drop)]
+#[derive(Clone, Copy)]
 pub(crate) struct Seen {
     pub(crate) rises: [u16; 16],
     pub(crate) over: [bool; 16],

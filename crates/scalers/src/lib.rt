@@ -1,4 +1,6 @@
 // What is counted of frames and of events: document 02, "Scaler words". Every count wraps at 2^32.
+#![tactic(auto)]
+
 ghost use Rattle.std.specs.Prelude.{◌≡◌};
 ghost use Rattle.scalers.specs.Scalers.{nothing_counted, frames_of, count_frames, triggered, latched_now, reset_now};
 
@@ -19,7 +21,7 @@ const COUNTS: usize = 4294967296;
 
 // The running counts of the channels, of whole groups of frames and of events opened; the frames of the group that is not
 // whole yet; which channels were over in the last frame; the counts as they were latched.
-#[derive(Drop)]
+#[derive(Clone, Copy)]
 pub struct Scalers {
     pub counts: [u32; 16],
     pub timer: u32,

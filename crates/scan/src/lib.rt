@@ -1,11 +1,13 @@
 // Where the reading of a block stands, and where it stands behind a word.
+#![tactic(auto)]
+
 ghost use Rattle.std.specs.Prelude.{◌≡◌};
 ghost use Rattle.scan.specs.After.{start_of};
 
 pub mod after;
 
 // Where in a block the next word stands.
-#[derive(Drop)]
+#[derive(Clone, Copy)]
 pub enum Stage {
     // Before the block's first word.
     Start,
@@ -28,7 +30,7 @@ pub enum Stage {
 }
 
 // The place of the next word, from 0 at the block's first; the block's slot; the event headers to come; the stage.
-#[derive(Drop)]
+#[derive(Clone, Copy)]
 pub struct Scan {
     pub place: u32,
     pub slot: u32,

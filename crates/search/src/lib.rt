@@ -1,4 +1,6 @@
 // Where a pulse is: document 01, "Finding pulses". Samples are numbered from 1, so 0 says that a search found none.
+#![tactic(auto)]
+
 ghost use Rattle.std.specs.Prelude.{◌≡◌, ◌+◌, ◌≤◌, length};
 ghost use Rattle.ground.specs.Search.{least};
 ghost use Rattle.search.specs.Search.{amp_at, over, any_over, next_tc, tc_from, early};

@@ -1,4 +1,6 @@
 // The state of a run, its ranges, and what stands for none: document 01, "One event, one store".
+#![tactic(auto)]
+
 ghost use Rattle.std.specs.Prelude.{◌≡◌};
 ghost use Rattle.state.specs.State.{idle, blank};
 
@@ -8,7 +10,7 @@ use scalers::Scalers;
 use settings::Settings;
 
 // No block is open, a block is open, an event of it is open.
-#[derive(Drop)]
+#[derive(Clone, Copy)]
 pub enum Phase {
     Idle,
     Block,
@@ -17,7 +19,7 @@ pub enum Phase {
 
 // `events` are those the block is to hold, `closed` those it holds so far, `words` the words written to it so far. What is
 // counted stands beside all that, and stays when a block ends.
-#[derive(Drop)]
+#[derive(Clone, Copy)]
 pub struct State {
     pub settings: Settings,
     pub phase: Phase,

@@ -1,5 +1,7 @@
 // Words of bytes that are known by their bits alone: whether all are of a kind, how many of it come first. Many are tested at once.
 // Each function looks at all the bytes it is lent: who wants a part of them lends that part, and nothing is tested for it.
+#![tactic(auto)]
+
 ghost use Rattle.std.specs.Prelude.{◌≡◌, ◌+◌, ◌*◌, ◌≤◌, length, get_or};
 ghost use Rattle.fields.specs.Bytes.{words_of_bytes};
 ghost use Rattle.raw.specs.Plain.{plain};

@@ -1,4 +1,6 @@
 // What an event ends with on request: its scalers, a word that says how many and the latched counts.
+#![tactic(auto)]
+
 ghost use Rattle.std.specs.Prelude.{◌≡◌, true, ◌+◌, ◌≤◌, length};
 ghost use Rattle.ground.specs.Splice.{Written, WrittenIf};
 ghost use Rattle.items.specs.Items.{words_of};

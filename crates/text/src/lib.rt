@@ -1,4 +1,6 @@
 // Lines of text put on a lent page. What has no room is counted and not written.
+#![tactic(auto)]
+
 ghost use Rattle.std.specs.Prelude.{◌≡◌, [], ◌∷◌};
 ghost use Rattle.written.specs.Page.{put};
 ghost use Rattle.written.specs.Line.{cell_of, cell_text, cells_of, cells_text, line_of, line_text};

@@ -1,4 +1,6 @@
 // The high-resolution time of a pulse: document 01, "Finding pulses", rules 1 to 4.
+#![tactic(auto)]
+
 ghost use Rattle.std.specs.Prelude.{◌≡◌, cond, ◌≤◌, length};
 ghost use Rattle.samples.specs.Sample.{most_amp};
 ghost use Rattle.search.specs.Search.{amp_at};
@@ -7,7 +9,7 @@ ghost use Rattle.timing.specs.ByBase.{base_of, edge_from, time_from, in_window};
 ghost use Rattle.timing.specs.declared.Rule.TheVariants.{Early};
 
 // Which rule of the high-resolution time gave it: 1, 2, 3 and 4 in the paper's order.
-#[derive(Drop)]
+#[derive(Clone, Copy)]
 pub enum Rule {
     Early,
     Late,
@@ -16,7 +18,7 @@ pub enum Rule {
 }
 
 // A high-resolution time. VPEAK 0 marks a time that is only TC.
-#[derive(Drop)]
+#[derive(Clone, Copy)]
 pub struct Time {
     pub coarse: usize,
     pub fine: u32,
@@ -26,7 +28,7 @@ pub struct Time {
 }
 
 // What the first four samples say of every time in the window: that rule 1 holds, or VMIN.
-#[derive(Drop)]
+#[derive(Clone, Copy)]
 pub struct Base {
     pub early: bool,
     pub low: u32,

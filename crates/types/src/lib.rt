@@ -5,12 +5,14 @@
 // - limits, which are no zero bits: module and events of type 0 (`BlockHeader`), the width of type 4 (`WindowRaw`);
 // - continuation words, which have no type: `fixed` of `Parameters`, `TriggerTimeHigh` and `SamplePair` has their zero bits, and a
 //   word of the scalers has none.
+#![tactic(auto)]
+
 ghost use Rattle.std.specs.Prelude.{◌≡◌, not, ◌&&◌, eqb};
 ghost use Rattle.fields.specs.Word.{read};
 ghost use Rattle.types.specs.Types.{is_allowed, has_slot, zeros_clear, RowSays};
 
 // Whether a word of the type may stand in a block, whether its bits 26-22 are a slot, and which bits must be zero.
-#[derive(Drop)]
+#[derive(Clone, Copy)]
 struct Row(bool, bool, u32);
 
 const TYPES: [Row; 16] = [

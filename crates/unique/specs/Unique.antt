@@ -238,6 +238,9 @@ scalers_take_apart_unique κs a r s u v p q = by_equation p q
 pub scalers_is_unique : Unique ScalerHeader.is.ended ScalerHeader.is.Reads.Learnt
 scalers_is_unique κs a r s u v p q = by_equation p q
 
+pub scalers_fixed_unique : Unique ScalerHeader.fixed.ended ScalerHeader.fixed.Reads.Learnt
+scalers_fixed_unique κs a r s u v p q = by_equation p q
+
 -- framing::trailer
 pub trailer_fits_unique : Unique BlockTrailer.fits.ended BlockTrailer.fits.Reads.Learnt
 trailer_fits_unique κs a r s u v p q = by_equation p q
@@ -309,6 +312,9 @@ pulse_raw_take_apart_unique κs a r s u v p q = by_equation p q
 pub pulse_raw_is_unique : Unique PulseRaw.is.ended PulseRaw.is.Reads.Learnt
 pulse_raw_is_unique κs a r s u v p q = by_equation p q
 
+pub pulse_raw_fixed_unique : Unique PulseRaw.fixed.ended PulseRaw.fixed.Reads.Learnt
+pulse_raw_fixed_unique κs a r s u v p q = by_equation p q
+
 -- raw::window
 pub window_within_unique : Unique WindowRaw.within.ended WindowRaw.within.Reads.Learnt
 window_within_unique κs a r s u v p q = by_equation p q
@@ -324,6 +330,9 @@ window_take_apart_unique κs a r s u v p q = by_equation p q
 
 pub window_is_unique : Unique WindowRaw.is.ended WindowRaw.is.Reads.Learnt
 window_is_unique κs a r s u v p q = by_equation p q
+
+pub window_fixed_unique : Unique WindowRaw.fixed.ended WindowRaw.fixed.Reads.Learnt
+window_fixed_unique κs a r s u v p q = by_equation p q
 
 -- measures::integral
 pub integral_fits_unique : Unique PulseIntegral.fits.ended PulseIntegral.fits.Reads.Learnt
@@ -363,6 +372,9 @@ time_take_apart_unique κs a r s u v p q = by_equation p q
 
 pub time_is_unique : Unique PulseTime.is.ended PulseTime.is.Reads.Learnt
 time_is_unique κs a r s u v p q = by_equation p q
+
+pub time_fixed_unique : Unique PulseTime.fixed.ended PulseTime.fixed.Reads.Learnt
+time_fixed_unique κs a r s u v p q = by_equation p q
 
 -- types
 pub is_allowed_unique : Unique types.is_allowed.ended types.is_allowed.Reads.Learnt

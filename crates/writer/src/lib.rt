@@ -1,4 +1,6 @@
 // One event, one store: the state of a run and the calls that change it, but for `closing::close`.
+#![tactic(auto)]
+
 ghost use Rattle.writer.specs.Calls.{SetUpSays, OpenBlockSays, OpenEventSays, PostSays, FinishSays};
 
 mod put;
@@ -8,14 +10,14 @@ use settings::Settings;
 use state::{Phase, State};
 
 // What a call answers: a refused one hands back the state that came in.
-#[derive(Drop)]
+#[derive(Clone, Copy)]
 pub struct Answer {
     pub refusal: Refusal,
     pub state: State,
 }
 
 // The same with the block's length in words, 0 where the call is refused.
-#[derive(Drop)]
+#[derive(Clone, Copy)]
 pub struct Finished {
     pub refusal: Refusal,
     pub state: State,

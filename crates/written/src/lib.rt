@@ -1,4 +1,6 @@
 // Lines and cells written on a lent page where they have room, without a test at each byte.
+#![tactic(auto)]
+
 ghost use Rattle.std.specs.Prelude.{◌+◌, ◌*◌, ◌≤◌, ◌<◌, ◌≡◌, [], ◌∷◌, length};
 ghost use Rattle.io.specs.Digits.{last_digits};
 ghost use Rattle.written.specs.Page.{put};
@@ -14,14 +16,14 @@ const DASH: u8 = 45;
 const ZERO: u8 = 48;
 
 // The next place, or nothing was written.
-#[derive(Drop)]
+#[derive(Clone, Copy)]
 pub enum Put {
     At(usize),
     NoRoom,
 }
 
 // A cell behind its tab, on a page of its own, and its length.
-#[derive(Drop)]
+#[derive(Clone, Copy)]
 pub struct Aside {
     pub bytes: [u8; 21],
     pub count: usize,

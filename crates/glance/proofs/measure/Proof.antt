@@ -16,12 +16,12 @@ returns-2 c =
 
 returns-3 : tie.Need-returns-3
 returns-3 c =
-    rw (sym c.before.before.before.before.before.before.is.ensures ∙ c.before.before.before.before.before.if1.false, sym c.before.before.before.before.is2.ensures ∙ c.before.before.before.if2.false, rw (c.before.before.is3.ensures, c.before.zeros-clear.ensures) at c.if3.true)
+    rw (sym c.before.before.before.before.before.before.is.ensures ∙ c.before.before.before.before.before.if1.false, sym c.before.before.before.before.is2.ensures ∙ c.before.before.before.if2.false, rw (c.before.before.is3.ensures, c.before.fixed.ensures) at c.if3.true)
     (ap (Q.Took K.Time) c.before.before.before.before.before.before.before.moved.ensures)
 
 returns-4 : tie.Need-returns-4
 returns-4 c =
-    rw (sym c.before.before.before.before.before.before.is.ensures ∙ c.before.before.before.before.before.if1.false, sym c.before.before.before.before.is2.ensures ∙ c.before.before.before.if2.false, rw (c.before.before.is3.ensures, c.before.zeros-clear.ensures) at c.if3.false)
+    rw (sym c.before.before.before.before.before.before.is.ensures ∙ c.before.before.before.before.before.if1.false, sym c.before.before.before.before.is2.ensures ∙ c.before.before.before.if2.false, rw (c.before.before.is3.ensures, c.before.fixed.ensures) at c.if3.false)
 
 pub measure_spec : {M : Type 1} → statement M
 measure_spec =

@@ -9,44 +9,44 @@ returns c = rw c.before.enum_told.given.1 c.fixed.ensures
 returns-2 : tie.Need-returns-2
 returns-2 c = rw c.before.enum-told2.given.1 c.fixed2.ensures
 
-returns-3 : tie.Need-returns-3
-returns-3 c = rw c.before.enum-told3.given.1 c.zeros-clear.ensures
-
-returns-4 : tie.Need-returns-4
-returns-4 c = rw c.before.enum-told4.given.1 c.zeros-clear2.ensures
-
-returns-5 : tie.Need-returns-5
-returns-5 c = rw c.before.enum-told5.given.1 c.zeros-clear3.ensures
-
 returns-6 : tie.Need-returns-6
 returns-6 c = rw c.before.enum-told6.given.1 c.fixed3.ensures
 
 returns-7 : tie.Need-returns-7
-returns-7 c = rw c.before.enum-told7.given.1 c.zeros-clear4.ensures
+returns-7 c = rw c.before.enum-told7.given.1 c.fixed4.ensures
 
 returns-8 : tie.Need-returns-8
-returns-8 c = rw c.before.enum-told8.given.1 c.zeros-clear5.ensures
+returns-8 c = rw c.before.enum-told8.given.1 c.fixed5.ensures
 
 returns-9 : tie.Need-returns-9
-returns-9 c = rw c.before.enum-told9.given.1 c.fixed4.ensures
-
-returns-10 : tie.Need-returns-10
-returns-10 c = rw c.before.enum-told10.given.1 c.zeros-clear6.ensures
+returns-9 c = rw c.before.enum-told9.given.1 c.fixed6.ensures
 
 returns-11 : tie.Need-returns-11
-returns-11 c = rw c.before.enum-told11.given.1 c.zeros-clear7.ensures
+returns-11 c = rw c.before.enum-told11.given.1 c.fixed7.ensures
+
+returns-3 : tie.Need-returns-3
+returns-3 c = rw c.enum-told3.given.1
+
+returns-4 : tie.Need-returns-4
+returns-4 c = rw c.enum-told4.given.1
+
+returns-5 : tie.Need-returns-5
+returns-5 c = rw c.enum-told5.given.1
+
+returns-10 : tie.Need-returns-10
+returns-10 c = rw c.enum-told10.given.1
 
 returns-12 : tie.Need-returns-12
-returns-12 c = rw c.before.enum-told12.given.1 c.zeros-clear8.ensures
+returns-12 c = rw c.enum-told12.given.1
 
 returns-13 : tie.Need-returns-13
-returns-13 c = rw c.before.enum-told13.given.1 c.zeros-clear9.ensures
+returns-13 c = rw c.enum-told13.given.1
 
 returns-14 : tie.Need-returns-14
-returns-14 c = rw c.before.enum-told14.given.1 c.zeros-clear10.ensures
+returns-14 c = rw c.enum-told14.given.1
 
 returns-15 : tie.Need-returns-15
-returns-15 c = rw c.before.enum-told15.given.1 c.zeros-clear11.ensures
+returns-15 c = rw c.before.enum-told15.given.1 c.fixed8.ensures
 
 returns-16 : tie.Need-returns-16
 returns-16 c = rw c.enum-told16.given.1
@@ -60,7 +60,8 @@ fixed_spec =
     (λ c. search rules)
     (λ c κs. tt)
     (λ c. search rules)
-    (λ c κs. tt)
+    (λ c. search rules)
+    (λ c. search rules)
     (λ c. search rules)
     (λ c κs. tt)
     (λ c. search rules)
@@ -70,19 +71,11 @@ fixed_spec =
     (λ c. search rules)
     (λ c κs. tt)
     (λ c. search rules)
-    (λ c κs. tt)
     (λ c. search rules)
     (λ c κs. tt)
     (λ c. search rules)
-    (λ c κs. tt)
     (λ c. search rules)
-    (λ c κs. tt)
     (λ c. search rules)
-    (λ c κs. tt)
-    (λ c. search rules)
-    (λ c κs. tt)
-    (λ c. search rules)
-    (λ c κs. tt)
     (λ c. search rules)
     (λ c κs. tt)
     (λ c. search rules)

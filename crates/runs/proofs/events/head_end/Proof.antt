@@ -2,7 +2,7 @@
 use mathlib.Core.Path.{sym, ◌∙◌}
 use native.Mathlib.Omega.{arith}
 use borrow.Author.Rules.{rules}
-use borrow.Author.Tests.{eqb-true, not-true, not-false}
+use borrow.Author.Tests.{eqb-true}
 use Rattle.ground.specs.TestsLaws.{and_left, and_right}
 use Rattle.fields.specs.Bytes.{words_of_bytes}
 use Rattle.stretches.specs.WordsLaws.{words_count}
@@ -18,7 +18,7 @@ returns-2 c =
     let a = c.before.before.before.before.before.before.before.before.before.args in
     let word = c.before.before.before.before.before.before.joined_at.ensures in
     let is = c.before.before.before.before.before.is in
-    let slot = c.before.before.before.before.slot-differs in
+    let slot = c.before.before.before.before.take.ensures in
     let test = c.before.before.before.if2.true in
     let size = c.head-size.ensures in (
       omega (arith, size.0),
@@ -27,7 +27,7 @@ returns-2 c =
         event = λ h left some.
             head_run (words_of_bytes a.bytes.now) a.slot a.k left some
             (rw (← word) (sym is.ensures ∙ and_left is.result _ test))
-            (rw (← word) (eqb-true _ _ (not-false _ (sym slot.ensures ∙ not-true _ (and_right is.result _ test)))))
+            (rw (← word) (sym slot ∙ eqb-true _ _ (and_right is.result _ test)))
             (omega (arith, words_count a.bytes.now))
             _ (rw (c.before.before.joined-at2.ensures, c.before.joined-at3.ensures) at size.1) (omega arith);
       },

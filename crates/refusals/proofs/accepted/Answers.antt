@@ -1,0 +1,6 @@
+-- `refusals::accepted` meets its contract. Assumes nothing.
+use Rattle.std.proofs.Common.{rules}
+use Rattle.refusals.proofs.accepted.Goals as goal
+
+pub returns : goal.returns
+returns c = rw c.number.ensures
