@@ -1,0 +1,12 @@
+-- `copies::put32` meets its contract. Assumes nothing.
+use Rattle.std.proofs.Common.{◌+◌, ◌-◌, ◌≤◌, refl, sym, ◌∙◌, arith, rules, leb-true, length}
+use borrow.Author.Tests.{not-true, not-false}
+use Rattle.ground.specs.CopyLaws.{Copied, copy_start, copy_turn, copy_end}
+use Rattle.copies.specs.CopiesLaws.{pasted_fits}
+use Rattle.copies.proofs.put32.Given as goal
+
+abbrev pub invariant-loop-word : goal.invariant-loop-word
+invariant-loop-word l = (l.at + length l.new ≤ length l.initial.out) × Copied l.initial.out l.at l.new l.out l.word
+
+abbrev pub decreases-loop-word : goal.decreases-loop-word
+decreases-loop-word l = length l.new - l.word

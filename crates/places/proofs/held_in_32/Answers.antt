@@ -1,0 +1,17 @@
+-- `places::held_in_32` meets its contract. The invariant: what was tested and what is left are the whole. Assumes nothing.
+use Rattle.std.proofs.Common.{◌-◌, ◌≡◌, refl, ◌&&◌, rules, length, drop}
+use Rattle.ground.specs.Tests.{all_le}
+use Rattle.places.specs.Places.{most32}
+use Rattle.ground.specs.TestsLaws.{tested_turn, tested_end}
+use Rattle.places.proofs.held_in_32.Goals as goal
+
+pub loop-i-init : goal.loop-i-init
+loop-i-init c = refl
+
+pub loop-i-preserved : goal.loop-i-preserved
+loop-i-preserved c =
+    let head = c.loop-i in
+    tested_turn _ _ head.good head.i head.invariant c.loop-i-test.true
+
+pub returns : goal.returns
+returns c = tested_end _ _ _ _ c.loop-i.invariant c.loop-i-test.false

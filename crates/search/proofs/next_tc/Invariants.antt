@@ -1,0 +1,14 @@
+-- `search::next_tc` meets its contract. The invariant: the search after `k` has the answer of the whole search. Assumes nothing.
+use Rattle.std.proofs.Common.{◌-◌, ◌≤◌, ◌≡◌, refl, sym, ◌∙◌, arith, rules, length}
+use borrow.Author.Tests.{not-true, not-false}
+use Rattle.ground.specs.Search.{least}
+use Rattle.ground.specs.SearchLaws.{least_pass, least_end}
+use Rattle.search.specs.Search.{starts, next_tc}
+use Rattle.search.specs.ChunkLaws.{starts_not, starts_quiet}
+use Rattle.search.proofs.next_tc.Given as goal
+
+abbrev pub invariant-loop-k : goal.invariant-loop-k
+invariant-loop-k l = (1 ≤ l.k) × (next_tc l.window l.threshold l.s ≡ least (starts l.window l.threshold) l.k (length l.window))
+
+abbrev pub decreases-loop-k : goal.decreases-loop-k
+decreases-loop-k l = length l.window - l.k

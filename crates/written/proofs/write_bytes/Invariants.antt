@@ -1,0 +1,11 @@
+-- `written::write_bytes` meets its contract: the page with the bytes that are left is the page asked for.
+use Rattle.std.proofs.Common.{◌+◌, ◌-◌, ◌≤◌, ◌≡◌, refl, sym, ◌∙◌, arith, length, drop, rules}
+use Rattle.written.specs.Page.{put}
+use Rattle.written.specs.PageLaws.{put_turn, put_done}
+use Rattle.written.proofs.write_bytes.Given as goal
+
+abbrev pub invariant-loop-i : goal.invariant-loop-i
+invariant-loop-i l = (length l.text ≡ length l.initial.text) × (l.i ≤ length l.s) × (l.k ≡ l.at + l.i) × (put (l.initial.text, l.at) l.s ≡ put (l.text, l.k) (drop l.i l.s))
+
+abbrev pub decreases-loop-i : goal.decreases-loop-i
+decreases-loop-i l = length l.s - l.i
