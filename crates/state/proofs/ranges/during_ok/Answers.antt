@@ -1,0 +1,8 @@
+-- `state::ranges::during_ok` meets its contract. Assumes nothing.
+use Rattle.std.proofs.Common.{rules}
+use Rattle.state.specs.State.{phase_ok}
+use Rattle.state.proofs.ranges.during_ok.Goals as goal
+
+pub returns : goal.returns
+unfolding phase_ok
+returns c = rw (c.in_block_ok-block.ensures, c.event_ok-event.ensures)

@@ -1,0 +1,8 @@
+-- `state::ranges::state_ok` meets its contract. Assumes nothing.
+use Rattle.std.proofs.Common.{rules}
+use Rattle.state.specs.State.{state_ok}
+use Rattle.state.proofs.ranges.state_ok.Goals as goal
+
+pub returns : goal.returns
+unfolding state_ok
+returns c = rw (c.phase_ok-phase.ensures, c.common_ok-good.ensures)

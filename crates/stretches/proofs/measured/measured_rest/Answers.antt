@@ -1,0 +1,18 @@
+-- `stretches::measured::measured_rest` meets its contract. The invariant: so are the words so far.
+use Rattle.std.proofs.Common.{◌-◌, ◌/◌, sym, ◌∙◌, arith, length, rules}
+use borrow.Author.Tests.{not-true, not-false}
+use Rattle.stretches.specs.Stretches.{measure, Row}
+use Rattle.stretches.specs.StretchesLaws.{row_one, row_stop, row_end}
+use Rattle.stretches.proofs.measured.measured_rest.Goals as goal
+
+pub returns-then-not-measure_at : goal.returns-then-not-measure_at
+returns-then-not-measure_at c = row_stop c.loop-k.invariant (sym c.measure_at.ensures ∙ c.if-not-measure_at.true)
+
+pub loop-k-preserved : goal.loop-k-preserved
+loop-k-preserved c = row_one c.loop-k.invariant (omega arith) (sym c.measure_at.ensures ∙ c.if-not-measure_at.false)
+
+pub returns : goal.returns
+returns c = row_end c.loop-k.invariant (omega arith)
+
+pub loop-k-init : goal.loop-k-init
+loop-k-init c = c.requires

@@ -1,0 +1,12 @@
+-- `stretches::plain::plain_chunks` meets its contract. The invariant: so are the words so far.
+use Rattle.std.proofs.Common.{◌-◌, ◌/◌, length, rules}
+use borrow.Author.Tests.{not-false}
+use Rattle.raw.specs.Plain.{plain}
+use Rattle.stretches.specs.Stretches.{Row}
+use Rattle.stretches.proofs.plain.plain_chunks.Given as goal
+
+abbrev pub invariant-loop-k : goal.invariant-loop-k
+invariant-loop-k l = Row plain l.bytes l.k
+
+abbrev pub decreases-loop-k : goal.decreases-loop-k
+decreases-loop-k l = length l.bytes / 4 - l.k
