@@ -1,0 +1,13 @@
+-- `numbers::load::marks_from` meets its contract. Assumes nothing.
+use Rattle.std.proofs.Common.{ℕ, ◌*◌, ◌/◌, ◌%◌, ◌^◌, ◌-◌, ◌≡◌, refl, sym, ap, ◌∙◌, arith, rules, ltb, eqb, length, length-set}
+use lib.Seq.{sets}
+use Rattle.numbers.specs.Numbers.{table, marks_from}
+use Rattle.numbers.specs.NumbersLaws.{table_turn, table_done, bit_asked, bit_small, bit_next}
+use Rattle.numbers.proofs.load.marks_from.Given as goal
+
+abbrev pub invariant-loop-channel : goal.invariant-loop-channel
+invariant-loop-channel l =
+    (length l.marks ≡ 16) × ((l.bit ≡ 2 ^ l.channel) × (marks_from l.number ≡ sets l.marks l.channel (table (λ j. eqb (l.number / 2 ^ j % 2) 1) (16 - l.channel) l.channel)))
+
+abbrev pub decreases-loop-channel : goal.decreases-loop-channel
+decreases-loop-channel l = 16 - l.channel

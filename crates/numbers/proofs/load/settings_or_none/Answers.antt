@@ -1,0 +1,14 @@
+-- `numbers::load::settings_or_none` meets its contract. Assumes nothing.
+use Rattle.std.proofs.Common.{sym, ◌∙◌, rules}
+use Rattle.numbers.specs.StoreLaws.{settings_held, settings_none}
+use Rattle.numbers.proofs.load.settings_or_none.Goals as goal
+
+pub settings_from-requires : goal.settings_from-requires
+settings_from-requires c = sym c.is_settings.ensures ∙ c.if-is_settings.true
+
+pub returns-then-is_settings : goal.returns-then-is_settings
+returns-then-is_settings c = settings_held _ (sym c.is_settings.ensures ∙ c.if-is_settings.true) c.settings_from.ensures
+
+pub returns : goal.returns
+returns c =
+    settings_none _ (sym c.is_settings.ensures ∙ c.if-is_settings.false) c.no_state-none.ensures

@@ -1,0 +1,27 @@
+-- `numbers::store::put_scalers` meets its contract: the counts, what stands between, the latched counts. Assumes nothing.
+use Rattle.std.proofs.Common.{◌≡◌, ap, ◌∙◌, arith, rules, length}
+use Rattle.copies.specs.Copies.{pasted}
+use Rattle.places.specs.Places.{counts_at, latched_at}
+use Rattle.numbers.specs.ScalersLaws.{scalers_stored_lem, scalers_short}
+use Rattle.numbers.proofs.store.put_scalers.Goals as goal
+use Rattle.numbers.proofs.store.put_scalers.Goals.{Start}
+
+counts_size : (c : Start) → length c.args.scalers.counts ≡ 16
+counts_size c = search rules
+
+latched_size : (c : Start) → length c.args.scalers.latched ≡ 18
+latched_size c = search rules
+
+pub returns-then-numbers-lt-FRONT : goal.returns-then-numbers-lt-FRONT
+returns-then-numbers-lt-FRONT c =
+    scalers_short c.args.numbers.now c.args.scalers (counts_size (goal.at.returns-then-numbers-lt-FRONT c).Start) (latched_size (goal.at.returns-then-numbers-lt-FRONT c).Start) c.if-numbers-lt-FRONT.true
+
+pub returns : goal.returns
+returns c =
+    let s = c.args.scalers in
+    let wide16 = c.wide_16-counts.ensures in
+    let wide18 = c.wide_18-latched.ensures in
+    scalers_stored_lem c.args.numbers.now s (counts_size (goal.at.returns c).Start) (latched_size (goal.at.returns c).Start) c.if-numbers-lt-FRONT.false c.marks_number-marks.ensures
+    (c.put64.ensures ∙ ap (pasted c.args.numbers.now counts_at) wide16)
+    c.put64-2.ensures
+    (c.put64-3.ensures ∙ ap (pasted c.put64-2.new.out latched_at) wide18)
