@@ -1,7 +1,6 @@
 -- `copies::put32` meets its contract. Assumes nothing.
-use Rattle.std.proofs.Common.{◌+◌, ◌-◌, ◌≤◌, refl, sym, ◌∙◌, arith, rules, leb-true, length}
-use borrow.Author.Tests.{not-true, not-false}
-use Rattle.ground.specs.CopyLaws.{Copied, copy_start, copy_turn, copy_end}
+use Rattle.std.proofs.Common.{refl, sym, ◌∙◌, arith, leb-true}
+use Rattle.ground.specs.CopyLaws.{copy_start, copy_turn, copy_end}
 use Rattle.copies.specs.CopiesLaws.{pasted_fits}
 use Rattle.copies.proofs.put32.Goals as goal
 

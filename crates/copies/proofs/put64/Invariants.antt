@@ -1,8 +1,6 @@
 -- `copies::put64` meets its contract. Assumes nothing.
-use Rattle.std.proofs.Common.{◌+◌, ◌-◌, ◌≤◌, refl, sym, ◌∙◌, arith, rules, leb-true, length}
-use borrow.Author.Tests.{not-true, not-false}
-use Rattle.ground.specs.CopyLaws.{Copied, copy_start, copy_turn, copy_end}
-use Rattle.copies.specs.CopiesLaws.{pasted_fits}
+use Rattle.std.proofs.Common.{◌+◌, ◌-◌, ◌≤◌, length}
+use Rattle.ground.specs.CopyLaws.{Copied}
 use Rattle.copies.proofs.put64.Given as goal
 
 abbrev pub invariant-loop-number : goal.invariant-loop-number

@@ -1,5 +1,5 @@
 -- `fields::byte_at` meets its contract: a field of eight bits fits a byte.
-use Rattle.std.proofs.Common.{ℕ, ◌<◌, ◌^◌, sym, subst, rules}
+use Rattle.std.proofs.Common.{ℕ, ◌<◌, ◌^◌, sym, subst}
 use Rattle.fields.specs.WordLaws.{field_lt}
 use Rattle.fields.proofs.byte_at.Goals as goal
 

@@ -1,5 +1,4 @@
 -- `fields::put` meets its contract, from the laws of shifts and masks.
-use Rattle.std.proofs.Common.{rules}
 use Rattle.fields.proofs.Masks.{one_shl_pos, put_past, put_in}
 use Rattle.fields.proofs.put.Goals as goal
 

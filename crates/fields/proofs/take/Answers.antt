@@ -1,5 +1,4 @@
 -- `fields::take` meets its contract, from the laws of shifts and masks.
-use Rattle.std.proofs.Common.{rules}
 use Rattle.fields.specs.Word.{field_at}
 use Rattle.fields.proofs.Masks.{one_shl_pos, masked, past, whole}
 use Rattle.fields.proofs.take.Goals as goal

@@ -1,6 +1,5 @@
 -- `places::held_in` meets its contract. The invariant: what was asked and what is left are the whole. Assumes nothing.
-use Rattle.std.proofs.Common.{◌-◌, ◌≡◌, refl, sym, ◌&&◌, arith, rules, length, drop}
-use Rattle.places.specs.Places.{held_in}
+use Rattle.std.proofs.Common.{refl, sym, arith}
 use Rattle.places.specs.PlacesLaws.{held_other, held_turn, held_end}
 use Rattle.places.proofs.held_in.Goals as goal
 

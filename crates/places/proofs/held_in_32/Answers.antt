@@ -1,7 +1,5 @@
 -- `places::held_in_32` meets its contract. The invariant: what was tested and what is left are the whole. Assumes nothing.
-use Rattle.std.proofs.Common.{◌-◌, ◌≡◌, refl, ◌&&◌, rules, length, drop}
-use Rattle.ground.specs.Tests.{all_le}
-use Rattle.places.specs.Places.{most32}
+use Rattle.std.proofs.Common.{refl}
 use Rattle.ground.specs.TestsLaws.{tested_turn, tested_end}
 use Rattle.places.proofs.held_in_32.Goals as goal
 

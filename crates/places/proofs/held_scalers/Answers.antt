@@ -1,5 +1,5 @@
 -- `places::held_scalers` meets its contract. Assumes nothing.
-use Rattle.std.proofs.Common.{◌≡◌, sym, ap, ◌∙◌, arith, rules, length, take, length-take}
+use Rattle.std.proofs.Common.{◌≡◌, sym, ap, ◌∙◌, arith, length, take, length-take}
 use Rattle.ground.specs.Tests.{all_le}
 use Rattle.places.specs.Places.{most32}
 use Rattle.places.specs.PlacesLaws.{tail_part, scalers_asked}

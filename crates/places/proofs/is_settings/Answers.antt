@@ -1,5 +1,5 @@
 -- `places::is_settings` meets its contract. Assumes nothing.
-use Rattle.std.proofs.Common.{◌-◌, sym, arith, rules, length, length-take}
+use Rattle.std.proofs.Common.{◌-◌, sym, arith, length, length-take}
 use Rattle.places.specs.PlacesLaws.{settings_short, settings_asked}
 use Rattle.places.proofs.is_settings.Goals as goal
 

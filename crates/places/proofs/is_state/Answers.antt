@@ -1,5 +1,5 @@
 -- `places::is_state` meets its contract. Assumes nothing.
-use Rattle.std.proofs.Common.{◌≡◌, sym, arith, rules, length, take, drop, length-take, length-drop}
+use Rattle.std.proofs.Common.{◌≡◌, sym, arith, length, take, drop, length-take, length-drop}
 use Rattle.places.specs.Places.{head_count}
 use Rattle.places.specs.PlacesLaws.{short_none, state_asked}
 use Rattle.places.proofs.is_state.Goals as goal

@@ -1,5 +1,4 @@
 -- `refusals::accepted` meets its contract. Assumes nothing.
-use Rattle.std.proofs.Common.{rules}
 use Rattle.refusals.proofs.accepted.Goals as goal
 
 pub returns : goal.returns

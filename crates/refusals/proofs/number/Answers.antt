@@ -1,5 +1,4 @@
 -- `refusals::number` meets its contract. Assumes nothing.
-use Rattle.std.proofs.Common.{rules}
 use Rattle.refusals.proofs.number.Goals as goal
 
 pub returns-in-None : goal.returns-in-None

@@ -1,5 +1,5 @@
 -- `refusals::or_bad_array` meets its contract. Assumes nothing.
-use Rattle.std.proofs.Common.{sym, ◌∙◌, rules}
+use Rattle.std.proofs.Common.{sym, ◌∙◌}
 use Rattle.refusals.proofs.or_bad_array.Goals as goal
 
 pub returns-then-accepted : goal.returns-then-accepted

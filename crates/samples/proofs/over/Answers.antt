@@ -1,5 +1,4 @@
 -- `samples::over` meets its contract. Assumes nothing.
-use Rattle.std.proofs.Common.{rules}
 use Rattle.samples.specs.Sample.{is_over}
 use Rattle.samples.proofs.over.Goals as goal
 

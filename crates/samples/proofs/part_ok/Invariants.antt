@@ -1,8 +1,7 @@
 -- `samples::part_ok` meets its contract. The invariant: what was tested and what is left are the whole. Assumes nothing.
-use Rattle.std.proofs.Common.{◌-◌, ◌≡◌, refl, ◌&&◌, rules, length, drop}
+use Rattle.std.proofs.Common.{◌-◌, ◌≡◌, ◌&&◌, length, drop}
 use Rattle.ground.specs.Tests.{all_le}
-use Rattle.samples.specs.Sample.{most_sample, samples_ok}
-use Rattle.ground.specs.TestsLaws.{tested_turn, tested_end}
+use Rattle.samples.specs.Sample.{most_sample}
 use Rattle.samples.proofs.part_ok.Given as goal
 
 abbrev pub invariant-loop-i : goal.invariant-loop-i

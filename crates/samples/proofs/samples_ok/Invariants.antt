@@ -1,8 +1,6 @@
 -- `samples::samples_ok` meets its contract. The invariant: what is left tells of the whole. Assumes nothing.
-use Rattle.std.proofs.Common.{◌-◌, ◌≡◌, refl, sym, ◌∙◌, arith, rules, drop}
-use borrow.Author.Tests.{not-true, not-false}
+use Rattle.std.proofs.Common.{◌-◌, ◌≡◌, drop}
 use Rattle.samples.specs.Sample.{samples_ok}
-use Rattle.samples.specs.SampleLaws.{part_then, part_last}
 use Rattle.samples.proofs.samples_ok.Given as goal
 
 abbrev pub invariant-loop-k : goal.invariant-loop-k

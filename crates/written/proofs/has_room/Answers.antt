@@ -1,5 +1,5 @@
 -- `written::has_room` meets its contract.
-use Rattle.std.proofs.Common.{arith, le-leb, rules}
+use Rattle.std.proofs.Common.{arith, le-leb}
 use borrow.Author.Tests.{lt-leb}
 use Rattle.written.proofs.has_room.Goals as goal
 

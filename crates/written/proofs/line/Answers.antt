@@ -1,5 +1,5 @@
 -- `written::line` meets its contract: a line that has room is written.
-use Rattle.std.proofs.Common.{sym, ap, ◌∙◌, rules}
+use Rattle.std.proofs.Common.{sym, ap, ◌∙◌}
 use Rattle.written.specs.Room.{on_to, written_of}
 use Rattle.written.specs.RoomLaws.{room_fits}
 use Rattle.written.proofs.line.Goals as goal

@@ -1,5 +1,5 @@
 -- `written::write_byte` meets its contract.
-use Rattle.std.proofs.Common.{refl, arith, rules}
+use Rattle.std.proofs.Common.{refl, arith}
 use Rattle.written.specs.PageLaws.{put_here}
 use Rattle.written.proofs.write_byte.Goals as goal
 

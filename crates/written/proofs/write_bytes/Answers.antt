@@ -1,6 +1,5 @@
 -- `written::write_bytes` meets its contract: the page with the bytes that are left is the page asked for.
-use Rattle.std.proofs.Common.{◌+◌, ◌-◌, ◌≤◌, ◌≡◌, refl, sym, ◌∙◌, arith, length, drop, rules}
-use Rattle.written.specs.Page.{put}
+use Rattle.std.proofs.Common.{refl, sym, ◌∙◌, arith, rules}
 use Rattle.written.specs.PageLaws.{put_turn, put_done}
 use Rattle.written.proofs.write_bytes.Goals as goal
 

@@ -1,5 +1,5 @@
 -- `written::write_cell` meets its contract: a tab, then what the test chose.
-use Rattle.std.proofs.Common.{[], ◌∷◌, arith, rules}
+use Rattle.std.proofs.Common.{[], ◌∷◌, arith}
 use Rattle.written.specs.PageLaws.{put_then}
 use Rattle.written.proofs.write_cell.Goals as goal
 

@@ -1,8 +1,7 @@
 -- `written::write_cells` meets its contract: the page with the cells that are left is the page asked for.
-use Rattle.std.proofs.Common.{◌+◌, ◌*◌, ◌-◌, ◌≤◌, ◌≡◌, refl, sym, ◌∙◌, arith, length, drop, rules}
+use Rattle.std.proofs.Common.{◌+◌, ◌*◌, ◌-◌, ◌≤◌, ◌≡◌, length, drop}
 use Rattle.written.specs.Page.{put}
 use Rattle.written.specs.Line.{cells_text, cells_of}
-use Rattle.written.specs.LineLaws.{cells_turn, cells_done}
 use Rattle.written.proofs.write_cells.Given as goal
 
 abbrev pub invariant-loop-i : goal.invariant-loop-i

@@ -1,5 +1,5 @@
 -- `written::write_digit` meets its contract: a digit's character.
-use Rattle.std.proofs.Common.{◌%◌, arith, lt-ltb, rules}
+use Rattle.std.proofs.Common.{◌%◌, arith, lt-ltb}
 use Rattle.written.proofs.write_digit.Goals as goal
 
 pub returns : goal.returns

@@ -1,5 +1,5 @@
 -- `written::write_line` meets its contract: three writers one after another.
-use Rattle.std.proofs.Common.{[], ◌∷◌, rules}
+use Rattle.std.proofs.Common.{[], ◌∷◌}
 use Rattle.written.specs.PageLaws.{put_then}
 use Rattle.written.specs.Line.{line_text}
 use Rattle.written.proofs.write_line.Goals as goal

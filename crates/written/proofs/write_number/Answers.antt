@@ -1,5 +1,5 @@
 -- `written::write_number` meets its contract: the digits are the fewest.
-use Rattle.std.proofs.Common.{ℕ, ap, ◌∙◌, List, arith, rules}
+use Rattle.std.proofs.Common.{ℕ, ap, ◌∙◌, List, arith}
 use Rattle.written.specs.Page.{put}
 use Rattle.written.specs.LineLaws.{fewest_le, decimal_is}
 use Rattle.written.proofs.write_number.Goals as goal

@@ -1,5 +1,5 @@
 -- `written::write_three` meets its contract: its digits one after another.
-use Rattle.std.proofs.Common.{arith, rules}
+use Rattle.std.proofs.Common.{arith}
 use Rattle.written.specs.PageLaws.{put_then}
 use Rattle.written.proofs.write_three.Goals as goal
 

@@ -1,18 +1,16 @@
 -- `scan::after::scaler_stage` meets its contract.
-use mathlib.Core.Path.{◌≡◌, refl}
-use mathlib.Core.List.{[], ◌∷◌}
+use Rattle.std.proofs.Common.{◌≡◌, refl, [], ◌∷◌, rules}
 use types.Run.{OneOf, miss}
+use borrow.Enum.Refused.{opened}
 use denote.Enum.Declared.{tag_of}
-use borrow.Author.Rules.{rules}
 use Rattle.scan.specs.declared.Stage.{Stage}
 use Rattle.scan.specs.declared.Stage.TheVariants as P
 use Rattle.scan.specs.After.{scaled_by}
 use Rattle.scan.specs.contracts.Stage.{the_type}
-use Rattle.scan.proofs.after.scaler_stage.Statement.{statement}
-use Rattle.scan.proofs.after.scaler_stage.Tie as tie
+use Rattle.scan.proofs.after.scaler_stage.Goals as goal
 
-returns : tie.Need-returns
-returns c = rw (c.before.before.p.given.1, c.less.ensures)
+pub returns-in-Scalers : goal.returns-in-Scalers
+returns-in-Scalers c = rw (c.in-Scalers.is, c.less.ensures)
 
 -- only the scalers' stage changes
 other : (p : Stage) → OneOf (0 ∷ 1 ∷ 2 ∷ 3 ∷ 4 ∷ 5 ∷ 6 ∷ 7 ∷ 8 ∷ []) (tag_of the_type p) → p ≡ scaled_by p
@@ -27,8 +25,5 @@ other (P.Raw n some) k = refl
 other (P.Tail n) k = refl
 other (P.Scalers n) k = absurd (miss (0 ∷ 1 ∷ 2 ∷ 3 ∷ 4 ∷ 5 ∷ 6 ∷ 7 ∷ 8 ∷ []) 9 tt k)
 
-returns-2 : tie.Need-returns-2
-returns-2 c = other c.before.args.scan.stage c.match.keys2
-
-pub scaler_stage_spec : {M : Type 1} → statement M
-scaler_stage_spec = tie.close (tie.spec (λ c. search rules) (λ c κs. tt) returns returns-2)
+pub returns : goal.returns
+returns c = other c.args.scan.stage (opened c.in_default.in_default-own.keys2)

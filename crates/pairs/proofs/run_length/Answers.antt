@@ -1,0 +1,7 @@
+-- `pairs::run_length` meets its contract. Assumes nothing.
+use Rattle.std.proofs.Common.{arith, rules}
+use Rattle.limits.specs.LimitsLaws.{pairs_is}
+use Rattle.pairs.proofs.run_length.Goals as goal
+
+pub returns : goal.returns
+returns c = omega (arith, pairs_is c.args.samples)
