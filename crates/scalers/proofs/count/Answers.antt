@@ -5,7 +5,7 @@ use Rattle.ground.specs.TestsLaws.{Under}
 use Rattle.scalers.specs.Scalers.{frames_in, frames_of, count_frames}
 use Rattle.scalers.specs.Inner.{narrow_of}
 use Rattle.scalers.specs.FrameLaws.{narrow_under}
-use Rattle.scalers.specs.CountLaws.{ToCount, to_count, count_turn, count_end, part_frames, all_counted}
+use Rattle.scalers.specs.CountLaws.{to_count, count_turn, count_end, part_frames, all_counted}
 use Rattle.scalers.proofs.count.Goals as goal
 
 pub returns-then-whole-eq0 : goal.returns-then-whole-eq0

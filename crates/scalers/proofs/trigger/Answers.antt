@@ -1,5 +1,4 @@
 -- `scalers::trigger` meets its contract.
-use Rattle.std.proofs.Common.{rules}
 use Rattle.scalers.specs.Scalers.{wrapped, triggered}
 use Rattle.scalers.proofs.trigger.Goals as goal
 

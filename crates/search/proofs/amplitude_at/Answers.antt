@@ -1,5 +1,4 @@
 -- `search::amplitude_at` meets its contract. Assumes nothing.
-use Rattle.std.proofs.Common.{rules}
 use Rattle.search.specs.Search.{amp_at}
 use Rattle.search.proofs.amplitude_at.Goals as goal
 

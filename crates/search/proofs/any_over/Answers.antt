@@ -1,5 +1,4 @@
 -- `search::any_over` meets its contract. Assumes nothing.
-use Rattle.std.proofs.Common.{rules}
 use Rattle.search.specs.Search.{first_over, over_in}
 use Rattle.search.proofs.any_over.Goals as goal
 

@@ -1,7 +1,6 @@
 -- `search::first_over` meets its contract. The invariant: the search after `s + j` has the answer of the whole search. Assumes nothing.
-use Rattle.std.proofs.Common.{◌+◌, ◌-◌, ◌≤◌, ◌≡◌, sym, ◌∙◌, arith, rules}
+use Rattle.std.proofs.Common.{◌+◌, ◌-◌, ◌≤◌, ◌≡◌}
 use Rattle.ground.specs.Search.{least}
-use Rattle.ground.specs.SearchLaws.{least_pass, least_here, least_end}
 use Rattle.search.specs.Search.{over}
 use Rattle.search.proofs.first_over.Given as goal
 

@@ -1,6 +1,5 @@
 -- `search::high_of` meets its contract. The invariant: no sample that was looked at is higher. Assumes nothing.
-use Rattle.std.proofs.Common.{◌-◌, ◌≤◌, arith, rules}
-use Rattle.search.specs.Chunk.{NoneHigher}
+use Rattle.std.proofs.Common.{arith, rules}
 use Rattle.search.specs.ChunkLaws.{one_higher}
 use Rattle.search.proofs.high_of.Goals as goal
 

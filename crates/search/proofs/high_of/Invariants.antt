@@ -1,7 +1,6 @@
 -- `search::high_of` meets its contract. The invariant: no sample that was looked at is higher. Assumes nothing.
-use Rattle.std.proofs.Common.{◌-◌, ◌≤◌, arith, rules}
+use Rattle.std.proofs.Common.{◌-◌, ◌≤◌}
 use Rattle.search.specs.Chunk.{NoneHigher}
-use Rattle.search.specs.ChunkLaws.{one_higher}
 use Rattle.search.proofs.high_of.Given as goal
 
 abbrev pub invariant-loop-j : goal.invariant-loop-j

@@ -1,5 +1,5 @@
 -- `search::is_early` meets its contract. Assumes nothing.
-use Rattle.std.proofs.Common.{lt-ltb, le-ltb, rules}
+use Rattle.std.proofs.Common.{lt-ltb, le-ltb}
 use Rattle.search.specs.Search.{first_over, over_in, early}
 use Rattle.search.proofs.is_early.Goals as goal
 

@@ -1,9 +1,7 @@
 -- `search::next_tc` meets its contract. The invariant: the search after `k` has the answer of the whole search. Assumes nothing.
-use Rattle.std.proofs.Common.{◌-◌, ◌≤◌, ◌≡◌, refl, sym, ◌∙◌, arith, rules, length}
-use borrow.Author.Tests.{not-true, not-false}
-use Rattle.ground.specs.Search.{least}
+use Rattle.std.proofs.Common.{refl, sym, ◌∙◌, arith, rules}
 use Rattle.ground.specs.SearchLaws.{least_pass, least_end}
-use Rattle.search.specs.Search.{starts, next_tc}
+use Rattle.search.specs.Search.{next_tc}
 use Rattle.search.specs.ChunkLaws.{starts_not, starts_quiet}
 use Rattle.search.proofs.next_tc.Goals as goal
 

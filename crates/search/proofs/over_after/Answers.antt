@@ -1,7 +1,5 @@
 -- `search::over_after` meets its contract. The invariant: the search after `k` has the answer of the search after `s`. Assumes nothing.
 use Rattle.std.proofs.Common.{◌+◌, ◌-◌, ◌≡◌, sym, ◌∙◌, arith, rules, length}
-use Rattle.search.specs.Search.{over}
-use Rattle.search.specs.Chunk.{Passed}
 use Rattle.search.specs.ChunkLaws.{passed_none, passed_then, passed_all, one_found, none_found}
 use Rattle.search.proofs.over_after.Goals as goal
 

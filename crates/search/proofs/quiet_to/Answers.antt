@@ -1,7 +1,5 @@
 -- `search::quiet_to` meets its contract. The invariant: the search after `k` has the answer of the search after `s`. Assumes nothing.
-use Rattle.std.proofs.Common.{◌-◌, arith, rules}
-use Rattle.search.specs.Search.{over}
-use Rattle.search.specs.Chunk.{Passed}
+use Rattle.std.proofs.Common.{arith, rules}
 use Rattle.search.specs.ChunkLaws.{passed_none, chunk_none}
 use Rattle.search.proofs.quiet_to.Goals as goal
 

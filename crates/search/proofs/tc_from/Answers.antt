@@ -1,5 +1,5 @@
 -- `search::tc_from` meets its contract. Assumes nothing.
-use Rattle.std.proofs.Common.{◌∙◌, rules}
+use Rattle.std.proofs.Common.{◌∙◌}
 use Rattle.search.specs.Search.{first_over}
 use Rattle.search.specs.SearchLaws.{tc_first, tc_next}
 use Rattle.search.proofs.tc_from.Goals as goal

@@ -1,5 +1,4 @@
 -- `settings::in_range` meets its contract: the code's `&` is the definition's `all_of`. Assumes nothing.
-use Rattle.std.proofs.Common.{rules}
 use Rattle.limits.specs.LimitsLaws.{most_samples_lem}
 use Rattle.settings.specs.Ranges.{ranges, settings_ok}
 use Rattle.settings.proofs.in_range.Goals as goal

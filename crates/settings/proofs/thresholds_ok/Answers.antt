@@ -1,7 +1,5 @@
 -- `settings::thresholds_ok` meets its contract. The invariant: what was tested and what is left are the whole. Assumes nothing.
-use Rattle.std.proofs.Common.{◌-◌, ◌≡◌, refl, ◌&&◌, rules, length, drop}
-use Rattle.ground.specs.Tests.{all_le}
-use Rattle.samples.specs.Sample.{most_amp}
+use Rattle.std.proofs.Common.{refl}
 use Rattle.settings.specs.Ranges.{thresholds_ok}
 use Rattle.ground.specs.TestsLaws.{tested_turn, tested_end}
 use Rattle.settings.proofs.thresholds_ok.Goals as goal

@@ -1,5 +1,5 @@
 -- `text::put_byte` meets its contract: a byte that has room, one past the end, one at the farthest place.
-use Rattle.std.proofs.Common.{rules, arith}
+use Rattle.std.proofs.Common.{arith}
 use Rattle.written.specs.PageLaws.{put_here, put_past, put_stay}
 use Rattle.text.proofs.put_byte.Goals as goal
 

@@ -1,6 +1,5 @@
 -- `text::put_bytes` meets its contract: the page with the bytes that are left is the page asked for.
-use Rattle.std.proofs.Common.{◌-◌, ◌≡◌, refl, sym, ◌∙◌, rules, arith, length, drop}
-use Rattle.written.specs.Page.{put}
+use Rattle.std.proofs.Common.{refl, sym, ◌∙◌, rules, arith}
 use Rattle.written.specs.PageLaws.{put_turn, put_done}
 use Rattle.text.proofs.put_bytes.Goals as goal
 

@@ -1,7 +1,6 @@
 -- `text::put_bytes` meets its contract: the page with the bytes that are left is the page asked for.
-use Rattle.std.proofs.Common.{◌-◌, ◌≡◌, refl, sym, ◌∙◌, rules, arith, length, drop}
+use Rattle.std.proofs.Common.{◌-◌, ◌≡◌, length, drop}
 use Rattle.written.specs.Page.{put}
-use Rattle.written.specs.PageLaws.{put_turn, put_done}
 use Rattle.text.proofs.put_bytes.Given as goal
 
 abbrev pub invariant-loop-i : goal.invariant-loop-i

@@ -1,5 +1,5 @@
 -- `text::put_cell` meets its contract: what was written aside is the cell.
-use Rattle.std.proofs.Common.{ℕ, ap, sym, ◌∙◌, List, arith, length-take-le, rules}
+use Rattle.std.proofs.Common.{ℕ, ap, sym, ◌∙◌, List, arith, length-take-le}
 use Rattle.written.specs.Page.{put}
 use Rattle.written.specs.RoomLaws.{aside_length, aside_take}
 use Rattle.text.proofs.put_cell.Goals as goal

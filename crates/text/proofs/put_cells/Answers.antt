@@ -1,7 +1,5 @@
 -- `text::put_cells` meets its contract: the page with the cells that are left is the page asked for.
-use Rattle.std.proofs.Common.{◌-◌, ◌≡◌, refl, sym, ◌∙◌, rules, arith, length, drop}
-use Rattle.written.specs.Page.{put}
-use Rattle.written.specs.Line.{cells_text, cells_of}
+use Rattle.std.proofs.Common.{refl, sym, ◌∙◌, rules, arith}
 use Rattle.written.specs.LineLaws.{cells_turn, cells_done}
 use Rattle.text.proofs.put_cells.Goals as goal
 

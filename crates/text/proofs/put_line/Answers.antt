@@ -1,5 +1,5 @@
 -- `text::put_line` meets its contract: written where it fits, or three writers one after another.
-use Rattle.std.proofs.Common.{ℕ, ap, ◌∙◌, List, [], ◌∷◌, rules}
+use Rattle.std.proofs.Common.{ℕ, ap, ◌∙◌, List, [], ◌∷◌}
 use Rattle.written.specs.Page.{put}
 use Rattle.written.specs.PageLaws.{put_then}
 use Rattle.written.specs.Line.{line_text}

@@ -1,6 +1,6 @@
 -- `scalers::frames::added` meets its contract: each sum is stored at its place.
-use Rattle.std.proofs.Common.{ℕ, ◌+◌, ◌-◌, ◌<◌, length, get_or, sym, refl, ap, ◌∙◌, zero-add, arith, rules}
-use Rattle.ground.specs.CopyLaws.{Copied, copy_start, copy_turn, copy_ahead, copy_end}
+use Rattle.std.proofs.Common.{ℕ, ◌+◌, ◌<◌, length, get_or, sym, refl, ap, ◌∙◌, zero-add, arith}
+use Rattle.ground.specs.CopyLaws.{copy_start, copy_turn, copy_ahead, copy_end}
 use Rattle.ground.specs.SpliceLaws.{splice_all}
 use Rattle.scalers.specs.Scalers.{wrapped, added_to}
 use Rattle.scalers.specs.FrameLaws.{length_added, added_at}

@@ -1,7 +1,7 @@
 -- `scalers::frames::narrowed` meets its contract: each threshold is stored at its place.
-use Rattle.std.proofs.Common.{◌-◌, ◌<◌, map, length, sym, ◌∙◌, zero-add, arith, rules}
+use Rattle.std.proofs.Common.{◌<◌, map, length, sym, ◌∙◌, zero-add, arith}
 use lib.ListN.{length-map, get_or-map}
-use Rattle.ground.specs.CopyLaws.{Copied, copy_start, copy_turn, copy_end}
+use Rattle.ground.specs.CopyLaws.{copy_start, copy_turn, copy_end}
 use Rattle.ground.specs.SpliceLaws.{splice_all}
 use Rattle.scalers.specs.Inner.{narrow_of}
 use Rattle.scalers.proofs.frames.narrowed.Goals as goal

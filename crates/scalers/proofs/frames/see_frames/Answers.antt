@@ -1,7 +1,7 @@
 -- `scalers::frames::see_frames` meets its contract: a frame a turn.
-use Rattle.std.proofs.Common.{◌≡◌, ◌+◌, ◌-◌, length, take, drop, refl, arith, length-drop, length-take, rules}
+use Rattle.std.proofs.Common.{◌≡◌, ◌+◌, ◌-◌, length, take, drop, refl, arith, length-drop, length-take}
 use Rattle.scalers.specs.FrameLaws.{under_le}
-use Rattle.scalers.specs.CountLaws.{ToSee, to_see, see_turn, see_end}
+use Rattle.scalers.specs.CountLaws.{to_see, see_turn, see_end}
 use Rattle.scalers.proofs.frames.see_frames.Goals as goal
 
 pub loop-at-init : goal.loop-at-init

@@ -1,7 +1,6 @@
 -- `scalers::frames::see_frames` meets its contract: a frame a turn.
-use Rattle.std.proofs.Common.{◌≡◌, ◌+◌, ◌-◌, length, take, drop, refl, arith, length-drop, length-take, rules}
-use Rattle.scalers.specs.FrameLaws.{under_le}
-use Rattle.scalers.specs.CountLaws.{ToSee, to_see, see_turn, see_end}
+use Rattle.std.proofs.Common.{◌-◌, length}
+use Rattle.scalers.specs.CountLaws.{ToSee}
 use Rattle.scalers.proofs.frames.see_frames.Given as goal
 
 abbrev pub invariant-loop-at : goal.invariant-loop-at

@@ -1,0 +1,7 @@
+-- `cursors::is_scan` meets its contract. Assumes nothing.
+use Rattle.std.proofs.Common.{rules}
+use Rattle.cursors.specs.CursorsLaws.{scan_asked}
+use Rattle.cursors.proofs.is_scan.Goals as goal
+
+pub returns : goal.returns
+returns c = scan_asked _ c.at.ensures c.at-second.ensures

@@ -1,0 +1,8 @@
+-- `hostfind::pulse_numbers` meets its contract. Assumes nothing.
+use Rattle.std.proofs.Common.{rules}
+use Rattle.hostfind.specs.Found.{pulse_numbers}
+use Rattle.hostfind.proofs.pulse_numbers.Goals as goal
+
+pub returns : goal.returns
+unfolding pulse_numbers
+returns c = cc
