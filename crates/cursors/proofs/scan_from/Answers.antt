@@ -5,4 +5,4 @@ use Rattle.cursors.proofs.scan_from.Goals as goal
 
 pub returns : goal.returns
 returns c =
-    scan_loaded _ c.at.ensures c.at.ensures c.at-2.ensures c.stage_from-stage.ensures c.at-3.ensures c.at-4.ensures c.at-5.ensures
+    scan_loaded _ c.at-second.ensures c.at.ensures c.at-2.ensures c.stage_from-stage.ensures c.at-3.ensures c.at-4.ensures c.at-5.ensures

@@ -1,5 +1,5 @@
 -- `rows::lent` meets its contract: nw ≤ floor (room / 16) is 16 x nw ≤ room.
-use Rattle.std.proofs.Common.{◌*◌, ◌/◌, arith, rules, length}
+use Rattle.std.proofs.Common.{◌*◌, ◌/◌, arith, length}
 use Rattle.ground.specs.TestsLaws.{same_test}
 use Rattle.rows.specs.Rows.{lent_ok}
 use Rattle.rows.proofs.lent.Goals as goal

@@ -1,7 +1,6 @@
 -- `rows::posted_ok` meets its contract: the rows tested and those left are all.
-use Rattle.std.proofs.Common.{◌-◌, ◌≤◌, ◌≡◌, refl, ◌&&◌, arith, length, drop}
+use Rattle.std.proofs.Common.{◌-◌, ◌≤◌, ◌≡◌, ◌&&◌, length, drop}
 use Rattle.rows.specs.Rows.{rows_ok}
-use Rattle.rows.specs.RowsLaws.{row_inside, part_row, rows_turn, rows_end}
 use Rattle.rows.proofs.posted_ok.Given as goal
 
 abbrev pub invariant-loop-channel : goal.invariant-loop-channel

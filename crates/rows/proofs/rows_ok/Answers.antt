@@ -1,5 +1,5 @@
 -- `rows::rows_ok` meets its contract: the rows are looked at only where the store holds them.
-use Rattle.std.proofs.Common.{sym, ◌∙◌, rules}
+use Rattle.std.proofs.Common.{sym, ◌∙◌}
 use Rattle.rows.specs.RowsLaws.{lent_says}
 use Rattle.rows.proofs.rows_ok.Goals as goal
 

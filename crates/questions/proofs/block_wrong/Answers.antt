@@ -1,0 +1,6 @@
+-- `questions::block_wrong` meets its contract.
+use Rattle.std.proofs.Common.{rules}
+use Rattle.questions.proofs.block_wrong.Goals as goal
+
+pub returns : goal.returns
+returns c = cc

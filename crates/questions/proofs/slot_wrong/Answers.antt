@@ -1,0 +1,6 @@
+-- `questions::slot_wrong` meets its contract.
+use Rattle.std.proofs.Common.{rules}
+use Rattle.questions.proofs.slot_wrong.Goals as goal
+
+pub returns : goal.returns
+returns c = simp c.take.ensures
