@@ -1,5 +1,5 @@
 -- `timing::base_of` meets its contract. Assumes nothing.
-use Rattle.std.proofs.Common.{sym, ◌∙◌, rules}
+use Rattle.std.proofs.Common.{sym, ◌∙◌}
 use Rattle.search.specs.SearchLaws.{quiet}
 use Rattle.timing.specs.TimeLaws.{base_early, base_low}
 use Rattle.timing.proofs.base_of.Goals as goal

@@ -1,5 +1,5 @@
 -- `timing::edge_time` meets its contract. Where N1 is there, the amplitudes on both sides of VMID are apart. Assumes nothing.
-use Rattle.std.proofs.Common.{◌+◌, ◌/◌, refl, sym, ◌∙◌, arith, rules}
+use Rattle.std.proofs.Common.{◌+◌, ◌/◌, refl, sym, ◌∙◌, arith}
 use Rattle.timing.specs.Time.{vmid}
 use Rattle.timing.specs.TimeLaws.{edge_is, edge_low, edge_none, edge_some}
 use Rattle.timing.specs.EdgeLaws.{Crosses, crosses_at}

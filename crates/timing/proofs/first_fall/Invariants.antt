@@ -1,10 +1,8 @@
 -- `timing::first_fall` meets its contract. The invariant: the search after `k` has the answer of the whole search, and sample `k` was read. Assumes nothing.
-use Rattle.std.proofs.Common.{◌-◌, ◌≤◌, ◌≡◌, refl, sym, ◌∙◌, arith, rules, length}
+use Rattle.std.proofs.Common.{◌-◌, ◌≤◌, ◌≡◌, length}
 use Rattle.ground.specs.Search.{least}
-use Rattle.ground.specs.SearchLaws.{least_pass, least_here, least_end}
 use Rattle.search.specs.Search.{amp_at}
 use Rattle.timing.specs.Time.{falls, first_fall}
-use Rattle.timing.specs.TimeLaws.{falls_yes, falls_no}
 use Rattle.timing.proofs.first_fall.Given as goal
 
 abbrev pub invariant-loop-k : goal.invariant-loop-k

@@ -1,8 +1,7 @@
 -- `timing::n1_of` meets its contract. The invariant: the search below `k` has the answer of the whole search. Assumes nothing.
-use Rattle.std.proofs.Common.{◌≤◌, ◌≡◌, refl, sym, ◌∙◌, arith, rules, length}
-use Rattle.ground.specs.Search.{greatest}
+use Rattle.std.proofs.Common.{refl, sym, ◌∙◌, arith, rules}
 use Rattle.ground.specs.SearchLaws.{greatest_pass, greatest_here, greatest_end}
-use Rattle.timing.specs.Time.{at_most, n1}
+use Rattle.timing.specs.Time.{n1}
 use Rattle.timing.specs.TimeLaws.{at_most_yes, at_most_no}
 use Rattle.timing.proofs.n1_of.Goals as goal
 

@@ -1,5 +1,5 @@
 -- `timing::time_from` meets its contract: no sample is read that the window does not have. Assumes nothing.
-use Rattle.std.proofs.Common.{rules, leb-true, leb}
+use Rattle.std.proofs.Common.{leb-true, leb}
 use Rattle.ground.specs.TestsLaws.{and_left, and_right}
 use Rattle.timing.specs.ByBase.{in_window}
 use Rattle.timing.proofs.time_from.Goals as goal

@@ -1,5 +1,5 @@
 -- `timing::time_in` meets its contract, rule by rule. Assumes nothing.
-use Rattle.std.proofs.Common.{sym, ◌∙◌, arith, rules, length}
+use Rattle.std.proofs.Common.{sym, ◌∙◌, arith, length}
 use Rattle.ground.specs.SearchLaws.{IsLeast, least_found}
 use Rattle.timing.specs.Time.{falls, first_fall}
 use Rattle.timing.specs.TimeLaws.{from_early, from_late, from_flat, from_edge}

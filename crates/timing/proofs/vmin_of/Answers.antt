@@ -1,5 +1,5 @@
 -- `timing::vmin_of` meets its contract. Assumes nothing.
-use Rattle.std.proofs.Common.{arith, rules}
+use Rattle.std.proofs.Common.{arith}
 use Rattle.timing.specs.Time.{vmin}
 use Rattle.timing.specs.EdgeLaws.{four}
 use Rattle.timing.proofs.vmin_of.Goals as goal

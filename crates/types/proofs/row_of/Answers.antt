@@ -1,5 +1,5 @@
 -- `types::row_of` meets its contract: on a numeral, row by row, the table says what the definitions say.
-use Rattle.std.proofs.Common.{refl, rules, ne_eqb}
+use Rattle.std.proofs.Common.{refl, ne_eqb}
 use Rattle.framing.specs.Words.{scalers_fixed}
 use Rattle.raw.specs.Words.{window_fixed, pulse_raw_fixed}
 use Rattle.measures.specs.Words.{time_fixed}

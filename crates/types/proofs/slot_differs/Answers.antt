@@ -1,5 +1,4 @@
 -- `types::slot_differs` meets its contract.
-use Rattle.std.proofs.Common.{rules}
 use Rattle.types.proofs.slot_differs.Goals as goal
 
 pub returns : goal.returns

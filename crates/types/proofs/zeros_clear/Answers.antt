@@ -1,5 +1,4 @@
 -- `types::zeros_clear` meets its contract.
-use Rattle.std.proofs.Common.{rules}
 use Rattle.types.proofs.zeros_clear.Goals as goal
 
 pub returns : goal.returns
