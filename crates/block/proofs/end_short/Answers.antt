@@ -1,5 +1,5 @@
 -- `block::end_short` meets its contract: a trailer is a word at least. Assumes nothing.
-use Rattle.std.proofs.Common.{◌+◌, sym, arith, rules, lt-ltb, length}
+use Rattle.std.proofs.Common.{◌+◌, sym, arith, lt-ltb, length}
 use Rattle.block.specs.Block.{end_items}
 use Rattle.block.specs.BlockLaws.{end_length, fillers_le}
 use Rattle.block.proofs.end_short.Goals as goal

@@ -1,5 +1,5 @@
 -- `block::fillers_to` meets its contract. Assumes nothing.
-use Rattle.std.proofs.Common.{ℕ, ◌<◌, refl, sym, ap, ◌∙◌, mod-lt, arith, rules}
+use Rattle.std.proofs.Common.{ℕ, ◌<◌, refl, sym, ap, ◌∙◌, mod-lt, arith}
 use Rattle.block.specs.Block.{fillers_to}
 use Rattle.block.specs.BlockLaws.{fillers_none}
 use Rattle.block.proofs.fillers_to.Goals as goal

@@ -1,6 +1,5 @@
 -- `block::put_block` meets its contract: what is not in range or has no room is not written. Assumes nothing.
-use Rattle.std.proofs.Common.{◌+◌, ◌≤◌, ◌≡◌, sym, ◌∙◌, true, rules, ltb-true, ltb-false, length}
-use borrow.Author.Tests.{not-true, not-false}
+use Rattle.std.proofs.Common.{◌+◌, ◌≤◌, ◌≡◌, sym, ◌∙◌, true, ltb-true, ltb-false, length}
 use Rattle.ground.specs.WritingLaws.{not_asked}
 use Rattle.settings.specs.Ranges.{settings_ok}
 use Rattle.items.specs.ItemsLaws.{put_wrote, put_nothing}

@@ -1,5 +1,5 @@
 -- `block::put_end` meets its contract: what a trailer cannot count or has no room is not written. Assumes nothing.
-use Rattle.std.proofs.Common.{◌+◌, ◌-◌, ◌^◌, ◌≤◌, sym, ◌∙◌, arith, rules, ltb-true, ltb-false, lt-ltb, le-ltb, length}
+use Rattle.std.proofs.Common.{◌+◌, ◌-◌, ◌^◌, ◌≤◌, sym, ◌∙◌, arith, ltb-true, ltb-false, lt-ltb, le-ltb, length}
 use Rattle.ground.specs.WritingLaws.{not_asked}
 use Rattle.items.specs.ItemsLaws.{put_wrote, put_nothing}
 use Rattle.block.specs.Block.{end_items}

@@ -1,10 +1,8 @@
 -- `block::put_fillers` meets its contract: what is left to write is as many fillers. Assumes nothing.
-use Rattle.std.proofs.Common.{ℕ, suc, ◌+◌, ◌-◌, ◌≤◌, ◌<◌, ◌≡◌, refl, ap, List, [], ◌∷◌, arith, rules, length, replicate}
+use Rattle.std.proofs.Common.{ℕ, suc, ◌+◌, ◌-◌, ◌≤◌, ◌<◌, ◌≡◌, refl, ap, [], ◌∷◌, arith, length}
 use lib.ListN.{length-replicate}
 use Rattle.ground.specs.WritingLaws.{Left, left_all, left_room, left_less, left_none, written}
-use Rattle.items.specs.Items.{word_of, words_of}
-use Rattle.items.specs.declared.Item.{Item}
-use Rattle.items.specs.declared.Item.TheVariants as I
+use Rattle.items.specs.Items.{word_of}
 use Rattle.items.specs.ItemsLaws.{length_words}
 use Rattle.block.proofs.put_fillers.Invariants.{filler, fillers}
 use Rattle.block.proofs.put_fillers.Goals as goal

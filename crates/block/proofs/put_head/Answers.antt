@@ -1,5 +1,5 @@
 -- `block::put_head` meets its contract: the header, then any parameters word. Assumes nothing.
-use Rattle.std.proofs.Common.{ℕ, refl, List, [], ◌∷◌, arith, rules}
+use Rattle.std.proofs.Common.{ℕ, refl, List, [], ◌∷◌, arith}
 use Rattle.settings.specs.declared.Settings.{Settings}
 use Rattle.settings.specs.RangesLaws.{settings_in_range}
 use Rattle.items.specs.Items.{item_if}

@@ -1,5 +1,5 @@
 -- `block::put_last` meets its contract: the trailer, then the fillers. Assumes nothing.
-use Rattle.std.proofs.Common.{ℕ, ◌+◌, ◌≤◌, ◌≡◌, refl, ap, ◌∙◌, List, [], ◌∷◌, ◌++◌, arith, rules, length, replicate}
+use Rattle.std.proofs.Common.{ℕ, ◌+◌, ◌≤◌, ◌≡◌, refl, ap, ◌∙◌, List, [], ◌∷◌, ◌++◌, arith, length, replicate}
 use lib.ListN.{length-replicate}
 use Rattle.ground.specs.Splice.{Written}
 use Rattle.settings.specs.declared.Settings.{Settings}

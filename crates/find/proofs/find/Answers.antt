@@ -1,6 +1,5 @@
 -- `find::find` meets its contract. Assumes nothing.
-use Rattle.std.proofs.Common.{◌≡◌, ◌∙◌, true, arith, eqb-true, rules, eqb, length}
-use borrow.Author.Tests.{not-true, not-false}
+use Rattle.std.proofs.Common.{◌≡◌, ◌∙◌, true, arith, eqb-true, eqb, length}
 use Rattle.finder.specs.FindLaws.{range_searches, find_all_lem}
 use Rattle.find.specs.Call.{find_number, channel_pulses}
 use Rattle.find.specs.CallLaws.{Accepted, accepted, found_none, found_all}

@@ -1,5 +1,5 @@
 -- `find::refusal_of` meets its contract, row by row. Assumes nothing.
-use Rattle.std.proofs.Common.{◌≡◌, sym, false, not, lt-ltb, le-ltb, eq-eqb, ne_eqb, rules, ap}
+use Rattle.std.proofs.Common.{◌≡◌, sym, false, not, lt-ltb, le-ltb, eq-eqb, ne_eqb, ap}
 use Rattle.ground.specs.Tests.{no_row, this_row, later_row}
 use Rattle.ground.specs.TestsLaws.{is_first}
 use Rattle.settings.specs.Ranges.{settings_ok}

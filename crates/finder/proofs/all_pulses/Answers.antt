@@ -1,7 +1,6 @@
 -- `finder::all_pulses` meets its contract. The invariant: the pulses that stand and those to come are the answer. Assumes nothing.
-use Rattle.std.proofs.Common.{◌-◌, ◌≡◌, sym, ◌∙◌, arith, rules}
-use Rattle.finder.specs.Find.{pulses_from, packed}
-use Rattle.finder.specs.FindLaws.{Rest, find_start, find_full, find_none, find_turn}
+use Rattle.std.proofs.Common.{sym, ◌∙◌, arith}
+use Rattle.finder.specs.FindLaws.{find_start, find_full, find_none, find_turn}
 use Rattle.search.specs.Asked.{IsOver}
 use Rattle.search.specs.SearchLaws.{tc_over}
 use Rattle.finder.proofs.all_pulses.Goals as goal

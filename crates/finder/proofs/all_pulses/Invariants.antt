@@ -1,9 +1,7 @@
 -- `finder::all_pulses` meets its contract. The invariant: the pulses that stand and those to come are the answer. Assumes nothing.
-use Rattle.std.proofs.Common.{◌-◌, ◌≡◌, sym, ◌∙◌, arith, rules}
+use Rattle.std.proofs.Common.{◌-◌, ◌≡◌}
 use Rattle.finder.specs.Find.{pulses_from, packed}
-use Rattle.finder.specs.FindLaws.{Rest, find_start, find_full, find_none, find_turn}
-use Rattle.search.specs.Asked.{IsOver}
-use Rattle.search.specs.SearchLaws.{tc_over}
+use Rattle.finder.specs.FindLaws.{Rest}
 use Rattle.finder.proofs.all_pulses.Given as goal
 
 abbrev pub invariant-loop-count : goal.invariant-loop-count

@@ -1,5 +1,4 @@
 -- `finder::coarse_pulse` meets its contract. Assumes nothing.
-use Rattle.std.proofs.Common.{rules}
 use Rattle.finder.specs.FindLaws.{coarse_is}
 use Rattle.finder.proofs.coarse_pulse.Goals as goal
 

@@ -1,8 +1,6 @@
 -- `finder::integral_of` meets its contract. The invariant: what is summed and the sum of what is left are the whole sum. Assumes nothing.
-use Rattle.std.proofs.Common.{◌+◌, ◌-◌, ◌*◌, ◌≤◌, ◌≡◌, arith, rules}
+use Rattle.std.proofs.Common.{◌+◌, ◌-◌, ◌*◌, ◌≤◌, ◌≡◌}
 use Rattle.ground.specs.Search.{sum_over}
-use Rattle.ground.specs.SearchLaws.{sum_step, sum_end}
-use Rattle.limits.specs.LimitsLaws.{most_samples_lem}
 use Rattle.samples.specs.Sample.{most_amp}
 use Rattle.search.specs.Search.{amp_at}
 use Rattle.timing.specs.Integral.{integral}

@@ -1,5 +1,5 @@
 -- `finder::is_tc` meets its contract: no sample is read that the window does not have. Assumes nothing.
-use Rattle.std.proofs.Common.{rules, le-leb}
+use Rattle.std.proofs.Common.{le-leb}
 use borrow.Author.Tests.{lt-leb}
 use Rattle.search.specs.Search.{over}
 use Rattle.finder.specs.Wanted.{is_tc}

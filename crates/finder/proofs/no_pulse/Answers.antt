@@ -1,5 +1,4 @@
 -- `finder::no_pulse` meets its contract. Assumes nothing.
-use Rattle.std.proofs.Common.{rules}
 use Rattle.finder.specs.Find.{no_pulse}
 use Rattle.finder.proofs.no_pulse.Goals as goal
 

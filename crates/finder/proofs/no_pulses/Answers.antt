@@ -1,5 +1,4 @@
 -- `finder::no_pulses` meets its contract. Assumes nothing.
-use Rattle.std.proofs.Common.{rules}
 use Rattle.finder.specs.Find.{packed}
 use Rattle.finder.proofs.no_pulses.Goals as goal
 

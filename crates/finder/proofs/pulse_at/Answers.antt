@@ -1,5 +1,5 @@
 -- `finder::pulse_at` meets its contract: by the window's own base the time is what it is. Assumes nothing.
-use Rattle.std.proofs.Common.{◌∙◌, rules}
+use Rattle.std.proofs.Common.{◌∙◌}
 use Rattle.timing.specs.TimeLaws.{in_window_lem}
 use Rattle.finder.specs.FindLaws.{from_is, from_all}
 use Rattle.finder.proofs.pulse_at.Goals as goal

@@ -1,6 +1,5 @@
 -- `finder::pulse_with` meets its contract: a TC that it may be lent is tested. Assumes nothing.
-use Rattle.std.proofs.Common.{◌≡◌, sym, ap₂, ◌∙◌, Bool, true, ◌&&◌, rules, length}
-use borrow.Author.Tests.{not-true, not-false}
+use Rattle.std.proofs.Common.{◌≡◌, sym, ap₂, ◌∙◌, Bool, true, ◌&&◌, length}
 use Rattle.ground.specs.TestsLaws.{and_left, and_right}
 use Rattle.search.specs.Asked.{IsOver}
 use Rattle.finder.specs.Find.{searchable}

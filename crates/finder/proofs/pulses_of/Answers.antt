@@ -1,5 +1,5 @@
 -- `finder::pulses_of` meets its contract. Assumes nothing.
-use Rattle.std.proofs.Common.{sym, ◌∙◌, rules}
+use Rattle.std.proofs.Common.{sym, ◌∙◌}
 use Rattle.finder.specs.FindLaws.{find_all_lem, find_no, searched}
 use Rattle.finder.proofs.pulses_of.Goals as goal
 

@@ -1,5 +1,4 @@
 -- `finder::sum_if` meets its contract. Assumes nothing.
-use Rattle.std.proofs.Common.{rules}
 use Rattle.finder.proofs.sum_if.Goals as goal
 
 pub returns-then-on : goal.returns-then-on

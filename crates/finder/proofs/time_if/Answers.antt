@@ -1,5 +1,4 @@
 -- `finder::time_if` meets its contract. Assumes nothing.
-use Rattle.std.proofs.Common.{rules}
 use Rattle.timing.specs.TimeLaws.{in_window_lem}
 use Rattle.finder.proofs.time_if.Goals as goal
 

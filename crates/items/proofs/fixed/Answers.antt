@@ -1,5 +1,4 @@
 -- `items::fixed` meets its contract, arm by arm.
-use Rattle.std.proofs.Common.{rules}
 use Rattle.items.proofs.fixed.Goals as goal
 
 pub returns-in-Block : goal.returns-in-Block

@@ -1,5 +1,4 @@
 -- `lines::put_clock` meets its contract: the name and the number by the second time word.
-use Rattle.std.proofs.Common.{rules}
 use Rattle.lines.proofs.put_clock.Goals as goal
 
 pub returns-in-Nothing : goal.returns-in-Nothing

@@ -1,5 +1,5 @@
 -- `lines::put_fill` meets its contract: no line, or one.
-use Rattle.std.proofs.Common.{eq-eqb, ne_eqb, rules}
+use Rattle.std.proofs.Common.{eq-eqb, ne_eqb}
 use Rattle.written.specs.LineLaws.{say_none, say_one}
 use Rattle.lines.proofs.put_fill.Goals as goal
 

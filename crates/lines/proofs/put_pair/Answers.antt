@@ -1,5 +1,5 @@
 -- `lines::put_pair` meets its contract: a dash for each flag.
-use Rattle.std.proofs.Common.{arith, rules}
+use Rattle.std.proofs.Common.{arith}
 use Rattle.lines.specs.LinesLaws.{pair_put}
 use Rattle.lines.proofs.put_pair.Goals as goal
 

@@ -1,5 +1,5 @@
 -- `pairs::pair_word` meets its contract.
-use Rattle.std.proofs.Common.{arith, rules}
+use Rattle.std.proofs.Common.{arith}
 use Rattle.pairs.specs.PairsLaws.{pair_cut}
 use Rattle.pairs.proofs.pair_word.Goals as goal
 

@@ -1,5 +1,5 @@
 -- `pairs::put_pairs` meets its contract: in a turn what is left begins with the j-th pair.
-use Rattle.std.proofs.Common.{ℕ, ◌+◌, ◌-◌, ◌*◌, ◌/◌, ◌≤◌, ◌≡◌, ap, subst, ◌∙◌, List, [], ◌∷◌, arith, rules, length, drop, get_or}
+use Rattle.std.proofs.Common.{ℕ, ◌+◌, ◌*◌, ◌/◌, ◌≡◌, ap, subst, ◌∙◌, List, [], ◌∷◌, arith, length, drop, get_or}
 use Rattle.ground.specs.WritingLaws.{Left, left_all}
 use Rattle.items.specs.Items.{words_of}
 use Rattle.items.specs.declared.Item.{Item}

@@ -1,5 +1,5 @@
 -- `pairs::put_run` meets its contract: the header, then the pairs.
-use Rattle.std.proofs.Common.{◌+◌, ◌≤◌, refl, sym, ◌∙◌, [], ◌∷◌, arith, rules, ltb-true, ltb-false, length}
+use Rattle.std.proofs.Common.{◌+◌, ◌≤◌, refl, sym, ◌∙◌, [], ◌∷◌, arith, ltb-true, ltb-false, length}
 use Rattle.items.specs.ItemsLaws.{first_room, then_room, put_written, then_written, put_wrote, put_nothing}
 use Rattle.pairs.specs.Pairs.{pair_items}
 use Rattle.pairs.specs.PairsLaws.{length_pairs}

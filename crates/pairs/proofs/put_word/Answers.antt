@@ -1,5 +1,5 @@
 -- `pairs::put_word` meets its contract: one store is a run of one word.
-use Rattle.std.proofs.Common.{refl, arith, rules}
+use Rattle.std.proofs.Common.{refl, arith}
 use Rattle.ground.specs.SpliceLaws.{set_splice}
 use Rattle.pairs.proofs.put_word.Goals as goal
 

@@ -1,5 +1,5 @@
 -- `pairs::run_length` meets its contract. Assumes nothing.
-use Rattle.std.proofs.Common.{arith, rules}
+use Rattle.std.proofs.Common.{arith}
 use Rattle.limits.specs.LimitsLaws.{pairs_is}
 use Rattle.pairs.proofs.run_length.Goals as goal
 

@@ -1,5 +1,4 @@
 -- `pairs::run_length_if` meets its contract. Assumes nothing.
-use Rattle.std.proofs.Common.{rules}
 use Rattle.pairs.proofs.run_length_if.Goals as goal
 
 pub returns-then-on : goal.returns-then-on

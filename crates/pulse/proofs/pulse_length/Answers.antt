@@ -1,5 +1,5 @@
 -- `pulse::pulse_length` meets its contract.
-use Rattle.std.proofs.Common.{sym, ◌∙◌, arith, rules}
+use Rattle.std.proofs.Common.{sym, ◌∙◌, arith}
 use Rattle.pulse.specs.PulseLaws.{fitting}
 use Rattle.pulse.proofs.pulse_length.Goals as goal
 

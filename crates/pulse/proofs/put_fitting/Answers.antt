@@ -1,79 +1,103 @@
 -- `pulse::put_fitting` meets its contract: its records one after the other, each where the mode writes it.
-use Rattle.std.proofs.Common.{List, [], ◌++◌, cond, ◌+◌, ◌≤◌, arith, rules, length}
+use Rattle.std.proofs.Common.{ℕ, ◌≡◌, List, [], ◌++◌, cond, ◌+◌, ◌≤◌, arith, length}
 use Rattle.ground.specs.Splice.{Written}
-use Rattle.items.specs.Items.{words_of, item_if}
+use Rattle.items.specs.Items.{word_of, words_of, item_if}
 use Rattle.items.specs.declared.Item.{Item}
 use Rattle.items.specs.ItemsLaws.{first_room, then_room, then_written}
+use Rattle.finder.specs.declared.Pulse.{Pulse}
+use Rattle.pulse.specs.declared.Parts.{Parts}
+use Rattle.pulse.specs.Inner.{word_if}
 use Rattle.pulse.specs.Pulse.{raw_items, integral_item, time_item, pedestal_item, pulse_items}
 use Rattle.pulse.specs.PulseLaws.{word_room, word_written}
 use Rattle.pulse.proofs.put_fitting.Goals as goal
-use Rattle.pulse.proofs.put_fitting.Goals.{After-integral_word, After-pedestal_word, After-put_word_if, After-put_word_if-integral, After-put_word_if-time, After-time_word, Start}
 
--- the four parts, as lists of records
-module _ (c : Start) where
-  raw : List Item
-  raw = cond c.args.parts.raw (raw_items c.args.channel c.args.row.now c.args.i c.args.pulse) []
+-- the four parts, as lists of records, and what is written of each one into `b`
+module _ (b : List ℕ) (at : ℕ) (m : Parts) (channel : ℕ) (row : List ℕ) (i : ℕ) (p : Pulse)
+    (fits : at + length (pulse_items m channel row i p) ≤ length b) where
+  abbrev raw : List Item
+  raw = cond m.raw (raw_items channel row i p) []
 
-  integral : List Item
-  integral = item_if c.args.parts.integral (integral_item c.args.channel c.args.i c.args.pulse)
+  abbrev integral : List Item
+  integral = item_if m.integral (integral_item channel i p)
 
-  time : List Item
-  time = item_if c.args.parts.time (time_item c.args.parts.high c.args.channel c.args.i c.args.pulse)
+  abbrev time : List Item
+  time = item_if m.time (time_item m.high channel i p)
 
-  pedestal : List Item
-  pedestal = item_if c.args.parts.pedestal (pedestal_item c.args.channel c.args.i c.args.pulse)
+  abbrev pedestal : List Item
+  pedestal = item_if m.pedestal (pedestal_item channel i p)
 
-  whole : c.args.at + length (raw ++ (integral ++ (time ++ pedestal))) ≤ length c.args.words.now
-  unfolding pulse_items raw integral time pedestal
-  whole = c.requires.1
+  whole : at + length (raw ++ (integral ++ (time ++ pedestal))) ≤ length b
+  unfolding pulse_items
+  whole = fits
+
+  room_raw : at + length raw ≤ length b
+  room_raw = first_room _ _ raw (integral ++ (time ++ pedestal)) whole
+
+  -- each part is written, and what is left has room behind it
+  module _ {k₁ : ℕ} {b₁ : List ℕ} (w₁ : Written b at (words_of raw) k₁ b₁) where
+    behind_raw : k₁ + length (integral ++ (time ++ pedestal)) ≤ length b₁
+    behind_raw = then_room _ _ raw (integral ++ (time ++ pedestal)) _ _ whole w₁
+
+    room_integral : (word : ℕ) → k₁ + length (word_if m.integral word) ≤ length b₁
+    room_integral word = word_room m.integral (integral_item channel i p) word _ _ (first_room _ _ integral (time ++ pedestal) behind_raw)
+
+    module _ {x₂ : ℕ} {k₂ : ℕ} {b₂ : List ℕ} (e₂ : x₂ ≡ word_of (integral_item channel i p)) (w₂ : Written b₁ k₁ (word_if m.integral x₂) k₂ b₂) where
+      wrote_integral : Written b₁ k₁ (words_of integral) k₂ b₂
+      wrote_integral = word_written m.integral (integral_item channel i p) x₂ e₂ w₂
+
+      behind_integral : k₂ + length (time ++ pedestal) ≤ length b₂
+      behind_integral = then_room _ _ integral (time ++ pedestal) _ _ behind_raw wrote_integral
+
+      room_time : (word : ℕ) → k₂ + length (word_if m.time word) ≤ length b₂
+      room_time word = word_room m.time (time_item m.high channel i p) word _ _ (first_room _ _ time pedestal behind_integral)
+
+      module _ {x₃ : ℕ} {k₃ : ℕ} {b₃ : List ℕ} (e₃ : x₃ ≡ word_of (time_item m.high channel i p)) (w₃ : Written b₂ k₂ (word_if m.time x₃) k₃ b₃) where
+        wrote_time : Written b₂ k₂ (words_of time) k₃ b₃
+        wrote_time = word_written m.time (time_item m.high channel i p) x₃ e₃ w₃
+
+        behind_time : k₃ + length pedestal ≤ length b₃
+        behind_time = then_room _ _ time pedestal _ _ behind_integral wrote_time
+
+        room_pedestal : (word : ℕ) → k₃ + length (word_if m.pedestal word) ≤ length b₃
+        room_pedestal word = word_room m.pedestal (pedestal_item channel i p) word _ _ behind_time
+
+        all_written : {x₄ : ℕ} {k₄ : ℕ} {b₄ : List ℕ} → x₄ ≡ word_of (pedestal_item channel i p) → Written b₃ k₃ (word_if m.pedestal x₄) k₄ b₄
+            → Written b at (words_of (pulse_items m channel row i p)) k₄ b₄
+        unfolding pulse_items
+        all_written {x₄ = x₄} e₄ w₄ =
+            let w = word_written m.pedestal (pedestal_item channel i p) x₄ e₄ w₄ in
+            let w' = then_written _ _ time _ _ pedestal _ _ (omega (arith, behind_integral)) wrote_time w in
+            let w'' = then_written _ _ integral _ _ (time ++ pedestal) _ _ (omega (arith, behind_raw)) wrote_integral w' in
+            then_written _ _ raw _ _ (integral ++ (time ++ pedestal)) _ _ (omega (arith, whole)) w₁ w''
 
 pub put_raw_if-samples-requires : goal.put_raw_if-samples-requires
-unfolding raw
 put_raw_if-samples-requires c =
-    (c.requires.0, first_room _ _ (raw (goal.at.put_raw_if-samples-requires c).Start) _ (whole (goal.at.put_raw_if-samples-requires c).Start))
-
--- each part is written, and what is left has room behind it
-behind_raw : (c : After-integral_word)
-    → c.put_raw_if-samples.result + length (integral (TODO-Start c) ++ (time (TODO-Start c) ++ pedestal (TODO-Start c))) ≤ length c.put_raw_if-samples.new.words
-unfolding raw
-behind_raw c = then_room _ _ (raw (TODO-Start c)) (integral (TODO-Start c) ++ (time (TODO-Start c) ++ pedestal (TODO-Start c))) _ _ (whole (TODO-Start c)) c.put_raw_if-samples.ensures
-
-wrote_integral : (c : After-put_word_if-integral)
-    → Written c.put_raw_if-samples.new.words c.put_raw_if-samples.result (words_of (integral (TODO-Start c))) c.put_word_if-integral.result c.put_word_if-integral.new.words
-unfolding integral
-wrote_integral c = word_written _ _ _ c.integral_word.ensures c.put_word_if-integral.ensures
-
-behind_integral : (c : After-time_word) → c.put_word_if-integral.result + length (time (TODO-Start c) ++ pedestal (TODO-Start c)) ≤ length c.put_word_if-integral.new.words
-behind_integral c = then_room _ _ (integral (TODO-Start c)) (time (TODO-Start c) ++ pedestal (TODO-Start c)) _ _ (behind_raw (TODO-After-integral_word c)) (wrote_integral (TODO-After-put_word_if-integral c))
-
-wrote_time : (c : After-put_word_if-time)
-    → Written c.put_word_if-integral.new.words c.put_word_if-integral.result (words_of (time (TODO-Start c))) c.put_word_if-time.result c.put_word_if-time.new.words
-unfolding time
-wrote_time c = word_written _ _ _ c.time_word.ensures c.put_word_if-time.ensures
-
-behind_time : (c : After-pedestal_word) → c.put_word_if-time.result + length (pedestal (TODO-Start c)) ≤ length c.put_word_if-time.new.words
-behind_time c = then_room _ _ (time (TODO-Start c)) (pedestal (TODO-Start c)) _ _ (let it : c.put_word_if-integral.result + length (time (TODO-After-words-1 c) ++ pedestal (TODO-After-words-1 c)) ≤ length c.put_word_if-integral.new.words = (then_room _ _ (integral (TODO-After-words-1 c)) (time (TODO-After-words-1 c) ++ pedestal (TODO-After-words-1 c)) _ _ (behind_raw c.before.before.before.before.before) (wrote_integral c.before.before.before.before)) in it) (wrote_time (TODO-After-put_word_if-time c))
-
-wrote_pedestal : (c : After-put_word_if)
-    → Written c.put_word_if-time.new.words c.put_word_if-time.result (words_of (pedestal (TODO-Start c))) c.put_word_if.result c.put_word_if.new.words
-unfolding pedestal
-wrote_pedestal c = word_written _ _ _ c.pedestal_word.ensures c.put_word_if.ensures
+    let a = c.args in
+    record {
+      fitting = c.requires.fitting;
+      pulse_in_bounds = room_raw _ _ a.parts a.channel a.row.now a.i a.pulse c.requires.pulse_in_bounds;
+    }
 
 pub put_word_if-integral-requires : goal.put_word_if-integral-requires
-unfolding integral
-put_word_if-integral-requires c = word_room _ _ _ _ _ (first_room _ _ (integral (goal.at.put_word_if-integral-requires c).Start) _ (behind_raw c))
+put_word_if-integral-requires c =
+    let a = c.args in
+    room_integral _ _ a.parts a.channel a.row.now a.i a.pulse c.requires.pulse_in_bounds c.put_raw_if-samples.ensures _
 
 pub put_word_if-time-requires : goal.put_word_if-time-requires
-unfolding time
-put_word_if-time-requires c = word_room _ _ _ _ _ (first_room _ _ (time (goal.at.put_word_if-time-requires c).Start) _ (behind_integral c))
+put_word_if-time-requires c =
+    let a = c.args in
+    room_time _ _ a.parts a.channel a.row.now a.i a.pulse c.requires.pulse_in_bounds c.put_raw_if-samples.ensures
+    c.integral_word.ensures c.put_word_if-integral.ensures _
 
 pub put_word_if-requires : goal.put_word_if-requires
-unfolding pedestal
-put_word_if-requires c = word_room _ _ _ _ _ (behind_time c)
+put_word_if-requires c =
+    let a = c.args in
+    room_pedestal _ _ a.parts a.channel a.row.now a.i a.pulse c.requires.pulse_in_bounds c.put_raw_if-samples.ensures
+    c.integral_word.ensures c.put_word_if-integral.ensures c.time_word.ensures c.put_word_if-time.ensures _
 
 pub returns : goal.returns
-unfolding pulse_items raw integral time pedestal
 returns c =
-    let w3 = then_written _ _ (time (goal.at.returns c).Start) _ _ (pedestal (goal.at.returns c).Start) _ _ (omega (arith, behind_integral (goal.at.returns c).After-time_word)) (wrote_time (goal.at.returns c).After-put_word_if-time) (wrote_pedestal (goal.at.returns c).After-put_word_if) in
-    let w2 = then_written _ _ (integral (goal.at.returns c).Start) _ _ (time (goal.at.returns c).Start ++ pedestal (goal.at.returns c).Start) _ _ (omega (arith, behind_raw (goal.at.returns c).After-integral_word)) (wrote_integral (goal.at.returns c).After-put_word_if-integral) w3 in
-    then_written _ _ (raw (goal.at.returns c).Start) _ _ (integral (goal.at.returns c).Start ++ (time (goal.at.returns c).Start ++ pedestal (goal.at.returns c).Start)) _ _ (omega (arith, whole (goal.at.returns c).Start)) c.put_raw_if-samples.ensures w2
+    let a = c.args in
+    all_written _ _ a.parts a.channel a.row.now a.i a.pulse c.requires.pulse_in_bounds c.put_raw_if-samples.ensures
+    c.integral_word.ensures c.put_word_if-integral.ensures c.time_word.ensures c.put_word_if-time.ensures
+    c.pedestal_word.ensures c.put_word_if.ensures

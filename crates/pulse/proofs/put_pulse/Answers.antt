@@ -1,13 +1,12 @@
 -- `pulse::put_pulse` meets its contract: what does not fit in the window or has no room is not written.
-use Rattle.std.proofs.Common.{◌+◌, ◌≤◌, ◌≡◌, sym, ◌∙◌, true, arith, rules, ltb-true, ltb-false, length}
-use borrow.Author.Tests.{not-true, not-false}
+use Rattle.std.proofs.Common.{◌+◌, ◌≡◌, sym, ◌∙◌, true, arith, ltb-true, ltb-false, length}
 use Rattle.ground.specs.WritingLaws.{not_asked}
 use Rattle.items.specs.ItemsLaws.{put_wrote, put_nothing}
 use Rattle.pulse.specs.Pulse.{pulse_items, pulse_length, fits_in}
 use Rattle.pulse.specs.Inner.{Fitting}
 use Rattle.pulse.specs.PulseLaws.{fitting, length_pulse}
 use Rattle.pulse.proofs.put_pulse.Goals as goal
-use Rattle.pulse.proofs.put_pulse.Goals.{Else-not-fits_in, Else-room_short}
+use Rattle.pulse.proofs.put_pulse.Goals.{Else-not-fits_in}
 
 -- where the second test is made
 module _ (c : Else-not-fits_in) where
@@ -28,7 +27,7 @@ fitting_length-requires c = (omega (arith, (fit c).to, (fit c).short), (fit c).f
 
 pub returns-then-room_short : goal.returns-then-room_short
 returns-then-room_short c =
-    let a = (start c.before.before.before).args in
+    let a = c.args in
     put_nothing (pulse_items a.parts a.channel a.row.now a.i a.pulse)
     (omega (
       arith,
@@ -37,20 +36,30 @@ returns-then-room_short c =
       ltb-true (length a.words.now) (a.at + c.fitting_length.result) (sym c.room_short.ensures ∙ c.if-room_short.true),
     ))
 
-room : (c : Else-room_short) → let a = (start c.before.before.before).args in a.at + length (pulse_items a.parts a.channel a.row.now a.i a.pulse) ≤ length a.words.now
-room c =
-    let a = (start c.before.before.before).args in
-    omega (
-      arith,
-      size (TODO-Else-not-fits_in c),
-      c.fitting_length.ensures,
-      ltb-false (length a.words.now) (a.at + c.fitting_length.result) (sym c.room_short.ensures ∙ c.if-room_short.false),
-    )
-
 pub put_fitting-requires : goal.put_fitting-requires
-put_fitting-requires c = (fit (goal.at.put_fitting-requires c).Else-not-fits_in, room (goal.at.put_fitting-requires c).Else-room_short)
+put_fitting-requires c =
+    let a = c.args in
+    let e = (goal.at.put_fitting-requires c).Else-not-fits_in in
+    record {
+      fitting = fit e;
+      pulse_in_bounds =
+          omega (
+            arith,
+            size e,
+            c.fitting_length.ensures,
+            ltb-false (length a.words.now) (a.at + c.fitting_length.result) (sym c.room_short.ensures ∙ c.if-room_short.false),
+          );
+    }
 
 pub returns : goal.returns
 returns c =
-    let a = (start c.before.before.before.before.before.before.before).args in
-    put_wrote (pulse_items a.parts a.channel a.row.now a.i a.pulse) (asked (goal.at.returns c).Else-not-fits_in) (room (goal.at.returns c).Else-room_short) c.put_fitting.ensures
+    let a = c.args in
+    let e = (goal.at.returns c).Else-not-fits_in in
+    put_wrote (pulse_items a.parts a.channel a.row.now a.i a.pulse) (asked e)
+    (omega (
+      arith,
+      size e,
+      c.fitting_length.ensures,
+      ltb-false (length a.words.now) (a.at + c.fitting_length.result) (sym c.room_short.ensures ∙ c.if-room_short.false),
+    ))
+    c.put_fitting.ensures

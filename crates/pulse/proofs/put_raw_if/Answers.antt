@@ -16,8 +16,8 @@ returns-then-on c =
     let on = c.if-on.true in
     let x = I.Raw (record { channel = a.channel; pulse = a.i; tc = a.pulse.tc }) in
     rw on
-    (put_written (x ∷ pair_items (set_of a.row.now a.pulse)) refl (rw on at c.requires.1)
-    (rw (part_set a.row.now a.pulse c.requires.0.from) at c.put_run.ensures))
+    (put_written (x ∷ pair_items (set_of a.row.now a.pulse)) refl (rw on at c.requires.pulse_in_bounds)
+    (rw (part_set a.row.now a.pulse c.requires.fitting.from) at c.put_run.ensures))
 
 pub returns-else-on : goal.returns-else-on
 returns-else-on c = rw c.if-on.false (written_nil _ _)

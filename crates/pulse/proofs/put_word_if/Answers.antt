@@ -1,5 +1,5 @@
 -- `pulse::put_word_if` meets its contract: one store is a run of one word.
-use Rattle.std.proofs.Common.{refl, arith, rules}
+use Rattle.std.proofs.Common.{refl, arith}
 use Rattle.ground.specs.SpliceLaws.{set_splice}
 use Rattle.ground.specs.WritingLaws.{written_nil}
 use Rattle.pulse.specs.Inner.{word_if}

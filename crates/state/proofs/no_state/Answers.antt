@@ -1,5 +1,5 @@
 -- `state::no_state` meets its contract. Assumes nothing.
-use Rattle.std.proofs.Common.{ap, ◌∙◌, rules}
+use Rattle.std.proofs.Common.{ap, ◌∙◌}
 use Rattle.state.specs.State.{idle, blank}
 use Rattle.state.proofs.no_state.Goals as goal
 

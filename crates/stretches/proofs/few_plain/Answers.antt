@@ -1,5 +1,4 @@
 -- `stretches::few_plain` meets its contract.
-use Rattle.std.proofs.Common.{rules}
 use Rattle.stretches.specs.StretchesLaws.{row_none}
 use Rattle.stretches.proofs.few_plain.Goals as goal
 

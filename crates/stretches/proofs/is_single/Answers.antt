@@ -1,5 +1,5 @@
 -- `stretches::is_single` meets its contract.
-use Rattle.std.proofs.Common.{sym, ap, arith, rules}
+use Rattle.std.proofs.Common.{sym, ap, arith}
 use Rattle.fields.specs.Word.{field_at}
 use Rattle.stretches.specs.Stretches.{single}
 use Rattle.stretches.specs.WordsLaws.{word_none}

@@ -1,5 +1,5 @@
 -- `stretches::joined_at` meets its contract.
-use Rattle.std.proofs.Common.{sym, ◌∙◌, arith, rules}
+use Rattle.std.proofs.Common.{sym, ◌∙◌, arith}
 use Rattle.stretches.specs.WordsLaws.{word_is}
 use Rattle.stretches.proofs.joined_at.Goals as goal
 

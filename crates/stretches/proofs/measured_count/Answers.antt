@@ -1,6 +1,5 @@
 -- `stretches::measured_count` meets its contract.
-use Rattle.std.proofs.Common.{sym, ◌∙◌, arith, rules}
-use borrow.Author.Tests.{not-true, not-false}
+use Rattle.std.proofs.Common.{sym, ◌∙◌, arith}
 use Rattle.stretches.specs.StretchesLaws.{row_none, row_one, row_stop, row_end}
 use Rattle.stretches.proofs.measured_count.Goals as goal
 

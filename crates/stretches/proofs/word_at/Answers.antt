@@ -1,5 +1,5 @@
 -- `stretches::word_at` meets its contract.
-use Rattle.std.proofs.Common.{sym, arith, rules}
+use Rattle.std.proofs.Common.{sym, arith}
 use Rattle.stretches.specs.WordsLaws.{word_none}
 use Rattle.stretches.proofs.word_at.Goals as goal
 

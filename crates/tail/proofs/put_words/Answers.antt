@@ -1,7 +1,6 @@
 -- `tail::put_words` meets its contract: what is left to write are the counts that are left.
-use Rattle.std.proofs.Common.{◌+◌, ◌-◌, ◌≤◌, ◌≡◌, refl, List, [], ◌∷◌, arith, rules, length, get_or, drop, drop_of_length-le}
-use Rattle.ground.specs.WritingLaws.{Left, left_all, written}
-use Rattle.items.specs.Items.{words_of}
+use Rattle.std.proofs.Common.{◌+◌, ◌≤◌, ◌≡◌, refl, List, [], ◌∷◌, arith, length, get_or, drop, drop_of_length-le}
+use Rattle.ground.specs.WritingLaws.{left_all, written}
 use Rattle.items.specs.declared.Item.{Item}
 use Rattle.items.specs.declared.Item.TheVariants as I
 use Rattle.items.specs.ItemsLaws.{loop_room, loop_less, loop_none}

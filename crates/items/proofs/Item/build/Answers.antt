@@ -1,5 +1,5 @@
 -- `items::Item::build` meets its contract: each arm is the word of its record.
-use Rattle.std.proofs.Common.{sym, ap, ◌∙◌, rules}
+use Rattle.std.proofs.Common.{sym, ap, ◌∙◌}
 use Rattle.items.specs.Items.{word_of}
 use Rattle.items.proofs.Item.build.Goals as goal
 

@@ -1,5 +1,4 @@
 -- `items::Item::take_apart` meets its contract, arm by arm.
-use Rattle.std.proofs.Common.{rules}
 use Rattle.items.proofs.Item.take_apart.Goals as goal
 
 pub returns-in-Block : goal.returns-in-Block

@@ -1,5 +1,4 @@
 -- `items::put::put_if` meets its contract.
-use Rattle.std.proofs.Common.{rules}
 use Rattle.ground.specs.WritingLaws.{nothing_new}
 use Rattle.items.proofs.put.put_if.Goals as goal
 

@@ -1,5 +1,5 @@
 -- `items::put::put_item` meets its contract: one store is a run of one word.
-use Rattle.std.proofs.Common.{refl, ap, ◌∙◌, [], ◌∷◌, ℕ, arith, rules}
+use Rattle.std.proofs.Common.{refl, ap, ◌∙◌, [], ◌∷◌, ℕ, arith}
 use Rattle.ground.specs.Splice.{splice}
 use Rattle.ground.specs.SpliceLaws.{set_splice}
 use Rattle.ground.specs.WritingLaws.{wrote, no_room}

@@ -1,6 +1,5 @@
 -- `numbers::load::marks_from` meets its contract. Assumes nothing.
-use Rattle.std.proofs.Common.{ℕ, ◌*◌, ◌/◌, ◌%◌, ◌^◌, ◌-◌, ◌≡◌, refl, sym, ap, ◌∙◌, arith, rules, ltb, eqb, length, length-set}
-use lib.Seq.{sets}
+use Rattle.std.proofs.Common.{ℕ, ◌*◌, ◌/◌, ◌%◌, ◌^◌, ◌≡◌, refl, sym, ap, ◌∙◌, arith, ltb, eqb, length-set}
 use Rattle.numbers.specs.Numbers.{table, marks_from}
 use Rattle.numbers.specs.NumbersLaws.{table_turn, table_done, bit_asked, bit_small, bit_next}
 use Rattle.numbers.proofs.load.marks_from.Goals as goal

@@ -1,8 +1,7 @@
 -- `numbers::load::marks_from` meets its contract. Assumes nothing.
-use Rattle.std.proofs.Common.{ℕ, ◌*◌, ◌/◌, ◌%◌, ◌^◌, ◌-◌, ◌≡◌, refl, sym, ap, ◌∙◌, arith, rules, ltb, eqb, length, length-set}
+use Rattle.std.proofs.Common.{◌/◌, ◌%◌, ◌^◌, ◌-◌, ◌≡◌, eqb, length}
 use lib.Seq.{sets}
 use Rattle.numbers.specs.Numbers.{table, marks_from}
-use Rattle.numbers.specs.NumbersLaws.{table_turn, table_done, bit_asked, bit_small, bit_next}
 use Rattle.numbers.proofs.load.marks_from.Given as goal
 
 abbrev pub invariant-loop-channel : goal.invariant-loop-channel

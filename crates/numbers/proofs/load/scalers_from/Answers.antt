@@ -1,5 +1,5 @@
 -- `numbers::load::scalers_from` meets its contract. Assumes nothing.
-use Rattle.std.proofs.Common.{arith, rules}
+use Rattle.std.proofs.Common.{arith}
 use Rattle.places.specs.Places.{counts_at, latched_at, over_at}
 use Rattle.places.specs.PlacesLaws.{state_count_lem, front_held}
 use Rattle.numbers.specs.ScalersLaws.{row_size, row_small, counts_wide, latched_wide, scalers_loaded}

@@ -1,5 +1,5 @@
 -- `numbers::load::settings_or_none` meets its contract. Assumes nothing.
-use Rattle.std.proofs.Common.{sym, ◌∙◌, rules}
+use Rattle.std.proofs.Common.{sym, ◌∙◌}
 use Rattle.numbers.specs.StoreLaws.{settings_held, settings_none}
 use Rattle.numbers.proofs.load.settings_or_none.Goals as goal
 

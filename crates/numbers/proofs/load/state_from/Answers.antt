@@ -1,5 +1,5 @@
 -- `numbers::load::state_from` meets its contract. Assumes nothing.
-use Rattle.std.proofs.Common.{arith, rules}
+use Rattle.std.proofs.Common.{arith}
 use Rattle.places.specs.Places.{front_count, marks_at}
 use Rattle.places.specs.PlacesLaws.{state_count_lem, state_settings_held, front_held, tail_part}
 use Rattle.numbers.specs.StoreLaws.{state_loaded}

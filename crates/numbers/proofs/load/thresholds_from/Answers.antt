@@ -1,5 +1,5 @@
 -- `numbers::load::thresholds_from` meets its contract. Assumes nothing.
-use Rattle.std.proofs.Common.{ℕ, ◌+◌, ◌-◌, ◌<◌, ◌≡◌, refl, sym, ◌∙◌, subst, zero-add, arith, rules, length, take, drop, set, replicate, length-set}
+use Rattle.std.proofs.Common.{ℕ, ◌+◌, ◌<◌, refl, sym, ◌∙◌, subst, zero-add, arith, take, drop, set, replicate, length-set}
 use Rattle.ground.specs.CopyLaws.{Copied, copy_start, copy_turn, copy_end}
 use Rattle.ground.specs.SpliceLaws.{splice_all}
 use Rattle.places.specs.Places.{thresholds_at}

@@ -1,9 +1,7 @@
 -- `numbers::load::thresholds_from` meets its contract. Assumes nothing.
-use Rattle.std.proofs.Common.{ℕ, ◌+◌, ◌-◌, ◌<◌, ◌≡◌, refl, sym, ◌∙◌, subst, zero-add, arith, rules, length, take, drop, set, replicate, length-set}
-use Rattle.ground.specs.CopyLaws.{Copied, copy_start, copy_turn, copy_end}
-use Rattle.ground.specs.SpliceLaws.{splice_all}
+use Rattle.std.proofs.Common.{◌-◌, ◌≡◌, length, take, drop, replicate}
+use Rattle.ground.specs.CopyLaws.{Copied}
 use Rattle.places.specs.Places.{thresholds_at}
-use Rattle.places.specs.PlacesLaws.{settings_count_lem, thresholds-16, threshold_at}
 use Rattle.numbers.proofs.load.thresholds_from.Given as goal
 
 abbrev pub invariant-loop-channel : goal.invariant-loop-channel

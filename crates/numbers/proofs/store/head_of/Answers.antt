@@ -1,5 +1,4 @@
 -- `numbers::store::head_of` meets its contract. Assumes nothing.
-use Rattle.std.proofs.Common.{arith, rules}
 use Rattle.numbers.specs.StoreLaws.{head_made}
 use Rattle.numbers.proofs.store.head_of.Goals as goal
 

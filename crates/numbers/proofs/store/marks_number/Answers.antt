@@ -1,5 +1,5 @@
 -- `numbers::store::marks_number` meets its contract. Assumes nothing.
-use Rattle.std.proofs.Common.{ℕ, ◌+◌, ◌*◌, ◌-◌, ◌≤◌, ◌<◌, ◌≡◌, sym, ap, ◌∙◌, false, arith, rules, length, drop, get_or}
+use Rattle.std.proofs.Common.{ℕ, ◌+◌, ◌*◌, ◌-◌, ◌<◌, ◌≡◌, sym, ap, ◌∙◌, false, arith, drop, get_or}
 use Rattle.numbers.specs.Numbers.{mark_bit, marks_number}
 use Rattle.numbers.specs.NumbersLaws.{bit_le, marks_turn, marks_at_lem, marks_none}
 use Rattle.numbers.proofs.store.marks_number.Goals as goal

@@ -1,5 +1,4 @@
 -- `numbers::store::put_head` meets its contract. Assumes nothing.
-use Rattle.std.proofs.Common.{rules}
 use Rattle.numbers.specs.StoreLaws.{head_stored_lem}
 use Rattle.numbers.proofs.store.put_head.Goals as goal
 

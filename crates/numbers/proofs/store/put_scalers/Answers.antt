@@ -1,5 +1,5 @@
 -- `numbers::store::put_scalers` meets its contract: the counts, what stands between, the latched counts. Assumes nothing.
-use Rattle.std.proofs.Common.{◌≡◌, ap, ◌∙◌, arith, rules, length}
+use Rattle.std.proofs.Common.{◌≡◌, ap, ◌∙◌, rules, length}
 use Rattle.copies.specs.Copies.{pasted}
 use Rattle.places.specs.Places.{counts_at, latched_at}
 use Rattle.numbers.specs.ScalersLaws.{scalers_stored_lem, scalers_short}

@@ -1,7 +1,6 @@
 -- `numbers::store::wide_16` meets its contract: each count is stored at its place. Assumes nothing.
-use Rattle.std.proofs.Common.{◌-◌, sym, ◌∙◌, zero-add, arith, rules}
-use Rattle.ground.specs.CopyLaws.{Copied, copy_start, copy_turn, copy_end}
-use Rattle.ground.specs.SpliceLaws.{splice_all}
+use Rattle.std.proofs.Common.{◌-◌}
+use Rattle.ground.specs.CopyLaws.{Copied}
 use Rattle.numbers.proofs.store.wide_16.Given as goal
 
 abbrev pub invariant-loop-i : goal.invariant-loop-i

@@ -1,6 +1,6 @@
 -- `numbers::store::wide_18` meets its contract: each count is stored at its place. Assumes nothing.
-use Rattle.std.proofs.Common.{◌-◌, sym, ◌∙◌, zero-add, arith, rules}
-use Rattle.ground.specs.CopyLaws.{Copied, copy_start, copy_turn, copy_end}
+use Rattle.std.proofs.Common.{sym, ◌∙◌, zero-add, arith}
+use Rattle.ground.specs.CopyLaws.{copy_start, copy_turn, copy_end}
 use Rattle.ground.specs.SpliceLaws.{splice_all}
 use Rattle.numbers.proofs.store.wide_18.Goals as goal
 

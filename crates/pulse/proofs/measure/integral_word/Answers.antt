@@ -1,5 +1,4 @@
 -- `pulse::measure::integral_word` meets its contract: its record, built.
-use Rattle.std.proofs.Common.{rules}
 use Rattle.items.specs.Items.{word_of}
 use Rattle.pulse.specs.Pulse.{integral_item}
 use Rattle.pulse.proofs.measure.integral_word.Goals as goal

@@ -1,5 +1,4 @@
 -- `pulse::measure::pedestal_word` meets its contract: its record, built.
-use Rattle.std.proofs.Common.{rules}
 use Rattle.items.specs.Items.{word_of}
 use Rattle.pulse.specs.Pulse.{pedestal_item}
 use Rattle.pulse.proofs.measure.pedestal_word.Goals as goal

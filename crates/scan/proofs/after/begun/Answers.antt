@@ -1,5 +1,4 @@
 -- `scan::after::begun` meets its contract.
-use Rattle.std.proofs.Common.{rules}
 use Rattle.scan.specs.After.{after}
 use Rattle.scan.proofs.after.begun.Goals as goal
 

@@ -1,5 +1,4 @@
 -- `scan::after::moved` meets its contract.
-use Rattle.std.proofs.Common.{rules}
 use Rattle.scan.proofs.after.moved.Goals as goal
 
 pub returns : goal.returns

@@ -1,5 +1,5 @@
 -- `scan::after::next_place` meets its contract.
-use Rattle.std.proofs.Common.{arith, rules}
+use Rattle.std.proofs.Common.{arith}
 use Rattle.scan.specs.After.{onward}
 use Rattle.scan.proofs.after.next_place.Goals as goal
 

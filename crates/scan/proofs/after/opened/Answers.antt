@@ -1,5 +1,4 @@
 -- `scan::after::opened` meets its contract.
-use Rattle.std.proofs.Common.{rules}
 use Rattle.scan.proofs.after.opened.Goals as goal
 
 pub returns : goal.returns

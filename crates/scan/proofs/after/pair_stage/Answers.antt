@@ -1,5 +1,5 @@
 -- `scan::after::pair_stage` meets its contract.
-use Rattle.std.proofs.Common.{ℕ, ◌≡◌, refl, [], ◌∷◌, rules}
+use Rattle.std.proofs.Common.{ℕ, ◌≡◌, refl, [], ◌∷◌}
 use types.Run.{OneOf, miss}
 use borrow.Enum.Refused.{opened}
 use denote.Enum.Declared.{tag_of}

@@ -1,5 +1,5 @@
 -- `scan::after::raw_paired` meets its contract.
-use Rattle.std.proofs.Common.{ne_eqb, rules}
+use Rattle.std.proofs.Common.{ne_eqb}
 use Rattle.scan.proofs.after.raw_paired.Goals as goal
 
 pub returns-then-flag-eq1 : goal.returns-then-flag-eq1

@@ -1,5 +1,5 @@
 -- `scan::after::scaler_stage` meets its contract.
-use Rattle.std.proofs.Common.{◌≡◌, refl, [], ◌∷◌, rules}
+use Rattle.std.proofs.Common.{◌≡◌, refl, [], ◌∷◌}
 use types.Run.{OneOf, miss}
 use borrow.Enum.Refused.{opened}
 use denote.Enum.Declared.{tag_of}

@@ -1,5 +1,4 @@
 -- `scan::after::scan_after` meets its contract.
-use Rattle.std.proofs.Common.{rules}
 use Rattle.framing.specs.Words.{trigger_time_of, scalers_of}
 use Rattle.raw.specs.Words.{pair_of, window_of}
 use Rattle.limits.specs.LimitsLaws.{most_pairs_lem}

@@ -1,5 +1,5 @@
 -- `scan::after::window_paired` meets its contract.
-use Rattle.std.proofs.Common.{le-leb, rules}
+use Rattle.std.proofs.Common.{le-leb}
 use borrow.Author.Tests.{lt-leb}
 use Rattle.scan.proofs.after.window_paired.Goals as goal
 

@@ -1,5 +1,5 @@
 -- `scan::after::window_stage` meets its contract.
-use Rattle.std.proofs.Common.{ℕ, ◌%◌, ap, arith, rules, eqb}
+use Rattle.std.proofs.Common.{ℕ, ◌%◌, ap, arith, eqb}
 use Rattle.scan.specs.declared.Stage.TheVariants as P
 use Rattle.limits.specs.Limits.{pairs_of}
 use Rattle.scan.proofs.after.window_stage.Goals as goal

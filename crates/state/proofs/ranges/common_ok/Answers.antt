@@ -1,5 +1,4 @@
 -- `state::ranges::common_ok` meets its contract. Assumes nothing.
-use Rattle.std.proofs.Common.{rules}
 use Rattle.state.specs.State.{scalers_ok, common_ok}
 use Rattle.state.proofs.ranges.common_ok.Goals as goal
 

@@ -1,5 +1,4 @@
 -- `state::ranges::idle_ok` meets its contract. Assumes nothing.
-use Rattle.std.proofs.Common.{rules}
 use Rattle.state.specs.State.{phase_ok}
 use Rattle.state.proofs.ranges.idle_ok.Goals as goal
 

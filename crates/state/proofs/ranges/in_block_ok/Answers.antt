@@ -1,5 +1,4 @@
 -- `state::ranges::in_block_ok` meets its contract. Assumes nothing.
-use Rattle.std.proofs.Common.{rules}
 use Rattle.state.proofs.ranges.in_block_ok.Goals as goal
 
 pub returns : goal.returns

@@ -1,6 +1,5 @@
 -- `state::ranges::no_marks` meets its contract. The invariant: what was asked and what is left are the whole. Assumes nothing.
-use Rattle.std.proofs.Common.{◌-◌, ◌≡◌, refl, ◌&&◌, rules, length, drop}
-use Rattle.state.specs.State.{no_marks}
+use Rattle.std.proofs.Common.{refl}
 use Rattle.state.specs.CodeLaws.{clear_turn, clear_end}
 use Rattle.state.proofs.ranges.no_marks.Goals as goal
 

@@ -1,7 +1,6 @@
 -- `state::ranges::no_marks` meets its contract. The invariant: what was asked and what is left are the whole. Assumes nothing.
-use Rattle.std.proofs.Common.{◌-◌, ◌≡◌, refl, ◌&&◌, rules, length, drop}
+use Rattle.std.proofs.Common.{◌-◌, ◌≡◌, ◌&&◌, length, drop}
 use Rattle.state.specs.State.{no_marks}
-use Rattle.state.specs.CodeLaws.{clear_turn, clear_end}
 use Rattle.state.proofs.ranges.no_marks.Given as goal
 
 abbrev pub invariant-loop-channel : goal.invariant-loop-channel

@@ -1,5 +1,5 @@
 -- `state::ranges::phase_ok` meets its contract: each arm has the tests of its phase. Assumes nothing.
-use Rattle.std.proofs.Common.{◌≡◌, ap, sym, ◌∙◌, rules}
+use Rattle.std.proofs.Common.{◌≡◌, ap, sym, ◌∙◌}
 use Rattle.state.specs.declared.Phase.{Phase}
 use Rattle.state.specs.declared.State.{State}
 use Rattle.state.specs.State.{phase_ok}

@@ -1,5 +1,4 @@
 -- `state::ranges::state_ok` meets its contract. Assumes nothing.
-use Rattle.std.proofs.Common.{rules}
 use Rattle.state.specs.State.{state_ok}
 use Rattle.state.proofs.ranges.state_ok.Goals as goal
 

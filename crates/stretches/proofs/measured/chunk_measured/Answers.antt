@@ -1,6 +1,5 @@
 -- `stretches::measured::chunk_measured` meets its contract. The invariant: if all was good so far, the words so far are.
-use Rattle.std.proofs.Common.{◌+◌, ◌-◌, ◌≤◌, ◌≡◌, true, arith, rules}
-use Rattle.stretches.specs.Stretches.{measure, Row}
+use Rattle.std.proofs.Common.{◌+◌, ◌≡◌, arith}
 use Rattle.stretches.specs.StretchesLaws.{row_turn}
 use Rattle.stretches.proofs.measured.chunk_measured.Goals as goal
 

@@ -1,7 +1,6 @@
 -- `stretches::measured::chunk_measured` meets its contract. The invariant: if all was good so far, the words so far are.
-use Rattle.std.proofs.Common.{◌+◌, ◌-◌, ◌≤◌, ◌≡◌, true, arith, rules}
+use Rattle.std.proofs.Common.{◌+◌, ◌-◌, ◌≤◌, ◌≡◌, true}
 use Rattle.stretches.specs.Stretches.{measure, Row}
-use Rattle.stretches.specs.StretchesLaws.{row_turn}
 use Rattle.stretches.proofs.measured.chunk_measured.Given as goal
 
 abbrev pub invariant-loop-i : goal.invariant-loop-i

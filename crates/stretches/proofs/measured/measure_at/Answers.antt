@@ -1,5 +1,5 @@
 -- `stretches::measured::measure_at` meets its contract.
-use Rattle.std.proofs.Common.{arith, rules}
+use Rattle.std.proofs.Common.{arith}
 use Rattle.stretches.specs.BitsLaws.{turned_measure}
 use Rattle.stretches.proofs.measured.measure_at.Goals as goal
 

@@ -1,7 +1,5 @@
 -- `stretches::measured::measured_chunks` meets its contract. The invariant: so are the words so far.
-use Rattle.std.proofs.Common.{◌-◌, ◌/◌, length, rules}
-use borrow.Author.Tests.{not-false}
-use Rattle.stretches.specs.Stretches.{measure, Row}
+use Rattle.std.proofs.Common.{rules}
 use Rattle.stretches.proofs.measured.measured_chunks.Goals as goal
 
 pub chunk_measured-requires : goal.chunk_measured-requires

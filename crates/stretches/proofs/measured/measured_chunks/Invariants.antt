@@ -1,6 +1,5 @@
 -- `stretches::measured::measured_chunks` meets its contract. The invariant: so are the words so far.
-use Rattle.std.proofs.Common.{◌-◌, ◌/◌, length, rules}
-use borrow.Author.Tests.{not-false}
+use Rattle.std.proofs.Common.{◌-◌, ◌/◌, length}
 use Rattle.stretches.specs.Stretches.{measure, Row}
 use Rattle.stretches.proofs.measured.measured_chunks.Given as goal
 

@@ -1,7 +1,5 @@
 -- `stretches::measured::measured_rest` meets its contract. The invariant: so are the words so far.
-use Rattle.std.proofs.Common.{◌-◌, ◌/◌, sym, ◌∙◌, arith, length, rules}
-use borrow.Author.Tests.{not-true, not-false}
-use Rattle.stretches.specs.Stretches.{measure, Row}
+use Rattle.std.proofs.Common.{sym, ◌∙◌, arith}
 use Rattle.stretches.specs.StretchesLaws.{row_one, row_stop, row_end}
 use Rattle.stretches.proofs.measured.measured_rest.Goals as goal
 

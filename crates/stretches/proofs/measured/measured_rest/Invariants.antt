@@ -1,8 +1,6 @@
 -- `stretches::measured::measured_rest` meets its contract. The invariant: so are the words so far.
-use Rattle.std.proofs.Common.{◌-◌, ◌/◌, sym, ◌∙◌, arith, length, rules}
-use borrow.Author.Tests.{not-true, not-false}
+use Rattle.std.proofs.Common.{◌-◌, ◌/◌, length}
 use Rattle.stretches.specs.Stretches.{measure, Row}
-use Rattle.stretches.specs.StretchesLaws.{row_one, row_stop, row_end}
 use Rattle.stretches.proofs.measured.measured_rest.Given as goal
 
 abbrev pub invariant-loop-k : goal.invariant-loop-k

@@ -1,7 +1,5 @@
 -- `stretches::plain::chunk_plain` meets its contract. The invariant: what was tested so far says so of the words so far.
-use Rattle.std.proofs.Common.{◌+◌, ◌-◌, ◌≤◌, ◌≡◌, arith, rules}
-use Rattle.raw.specs.Plain.{plain}
-use Rattle.stretches.specs.Stretches.{Told}
+use Rattle.std.proofs.Common.{◌+◌, ◌≡◌, arith}
 use Rattle.stretches.specs.StretchesLaws.{told_none, told_turn}
 use Rattle.stretches.proofs.plain.chunk_plain.Goals as goal
 

@@ -1,8 +1,7 @@
 -- `stretches::plain::chunk_plain` meets its contract. The invariant: what was tested so far says so of the words so far.
-use Rattle.std.proofs.Common.{◌+◌, ◌-◌, ◌≤◌, ◌≡◌, arith, rules}
+use Rattle.std.proofs.Common.{◌+◌, ◌-◌, ◌≤◌}
 use Rattle.raw.specs.Plain.{plain}
 use Rattle.stretches.specs.Stretches.{Told}
-use Rattle.stretches.specs.StretchesLaws.{told_none, told_turn}
 use Rattle.stretches.proofs.plain.chunk_plain.Given as goal
 
 abbrev pub invariant-loop-i : goal.invariant-loop-i

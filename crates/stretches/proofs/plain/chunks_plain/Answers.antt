@@ -1,8 +1,5 @@
 -- `stretches::plain::chunks_plain` meets its contract. The invariant: so are the words so far.
-use Rattle.std.proofs.Common.{◌-◌, sym, arith, rules}
-use borrow.Author.Tests.{not-true, not-false}
-use Rattle.raw.specs.Plain.{plain}
-use Rattle.stretches.specs.Stretches.{Row}
+use Rattle.std.proofs.Common.{sym, arith}
 use Rattle.stretches.specs.StretchesLaws.{row_none, row_all, row_less}
 use Rattle.stretches.proofs.plain.chunks_plain.Goals as goal
 

@@ -1,9 +1,7 @@
 -- `stretches::plain::first_plain` meets its contract. The invariant: so are the words so far.
-use Rattle.std.proofs.Common.{◌-◌, ◌≤◌, sym, ◌∙◌, arith, rules}
-use borrow.Author.Tests.{not-true, not-false}
+use Rattle.std.proofs.Common.{◌-◌, ◌≤◌}
 use Rattle.raw.specs.Plain.{plain}
 use Rattle.stretches.specs.Stretches.{Row}
-use Rattle.stretches.specs.StretchesLaws.{row_none, row_one, row_stop}
 use Rattle.stretches.proofs.plain.first_plain.Given as goal
 
 abbrev pub invariant-loop-k : goal.invariant-loop-k

@@ -1,5 +1,5 @@
 -- `stretches::plain::plain_at` meets its contract.
-use Rattle.std.proofs.Common.{arith, rules}
+use Rattle.std.proofs.Common.{arith}
 use Rattle.stretches.specs.BitsLaws.{turned_plain}
 use Rattle.stretches.proofs.plain.plain_at.Goals as goal
 

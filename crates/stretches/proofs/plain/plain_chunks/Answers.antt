@@ -1,8 +1,5 @@
 -- `stretches::plain::plain_chunks` meets its contract. The invariant: so are the words so far.
-use Rattle.std.proofs.Common.{◌-◌, ◌/◌, length, rules}
-use borrow.Author.Tests.{not-false}
-use Rattle.raw.specs.Plain.{plain}
-use Rattle.stretches.specs.Stretches.{Row}
+use Rattle.std.proofs.Common.{rules}
 use Rattle.stretches.proofs.plain.plain_chunks.Goals as goal
 
 pub chunk_plain-requires : goal.chunk_plain-requires

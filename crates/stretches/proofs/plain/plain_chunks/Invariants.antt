@@ -1,6 +1,5 @@
 -- `stretches::plain::plain_chunks` meets its contract. The invariant: so are the words so far.
-use Rattle.std.proofs.Common.{◌-◌, ◌/◌, length, rules}
-use borrow.Author.Tests.{not-false}
+use Rattle.std.proofs.Common.{◌-◌, ◌/◌, length}
 use Rattle.raw.specs.Plain.{plain}
 use Rattle.stretches.specs.Stretches.{Row}
 use Rattle.stretches.proofs.plain.plain_chunks.Given as goal

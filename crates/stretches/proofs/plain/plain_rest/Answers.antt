@@ -1,8 +1,5 @@
 -- `stretches::plain::plain_rest` meets its contract. The invariant: so are the words so far.
-use Rattle.std.proofs.Common.{◌-◌, ◌/◌, sym, ◌∙◌, arith, length, rules}
-use borrow.Author.Tests.{not-true, not-false}
-use Rattle.raw.specs.Plain.{plain}
-use Rattle.stretches.specs.Stretches.{Row}
+use Rattle.std.proofs.Common.{sym, ◌∙◌, arith}
 use Rattle.stretches.specs.StretchesLaws.{row_one, row_stop, row_end}
 use Rattle.stretches.proofs.plain.plain_rest.Goals as goal
 

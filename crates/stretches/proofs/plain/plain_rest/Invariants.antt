@@ -1,9 +1,7 @@
 -- `stretches::plain::plain_rest` meets its contract. The invariant: so are the words so far.
-use Rattle.std.proofs.Common.{◌-◌, ◌/◌, sym, ◌∙◌, arith, length, rules}
-use borrow.Author.Tests.{not-true, not-false}
+use Rattle.std.proofs.Common.{◌-◌, ◌/◌, length}
 use Rattle.raw.specs.Plain.{plain}
 use Rattle.stretches.specs.Stretches.{Row}
-use Rattle.stretches.specs.StretchesLaws.{row_one, row_stop, row_end}
 use Rattle.stretches.proofs.plain.plain_rest.Given as goal
 
 abbrev pub invariant-loop-k : goal.invariant-loop-k

@@ -1,0 +1,12 @@
+-- `runs::events::events_end` meets its contract. The invariant: all before is passed.
+use Rattle.std.proofs.Common.{◌-◌, ◌≤◌, arith, rules}
+use Rattle.fields.specs.Bytes.{words_of_bytes}
+use Rattle.runs.specs.Runs.{PassedTo}
+use Rattle.runs.specs.RunsLaws.{items_passed, events_more}
+use Rattle.runs.proofs.events.events_end.Given as goal
+
+abbrev pub invariant-loop-k : goal.invariant-loop-k
+invariant-loop-k l = (l.k ≤ l.end) × PassedTo (words_of_bytes l.bytes) l.slot l.from l.left l.k l.n
+
+abbrev pub decreases-loop-k : goal.decreases-loop-k
+decreases-loop-k l = l.end - l.k

@@ -1,0 +1,6 @@
+-- `runs::sets::is_window` meets its contract.
+use Rattle.std.proofs.Common.{rules}
+use Rattle.runs.proofs.sets.is_window.Goals as goal
+
+pub returns : goal.returns
+returns c = cc
