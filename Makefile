@@ -1,9 +1,9 @@
 # The library for C. `make` proves and builds the archive, an object for each crate that exports calls. `make install`
 # copies it, with the header, a shared object, the pkg-config file and the man page. Where the archive stands, installing
 # needs a C compiler and no rt.
-EXPORTING = host hostcount hostfind hostcheck hostread
+EXPORTING = host_c hostcount_c hostfind_c hostcheck_c hostread_c
 OBJECTS = $(EXPORTING:=.o)
-SOURCES = crates.txt kit.txt $(shell find crates -name '*.rt' -o -name '*.antt')
+SOURCES = crates.txt kit.txt $(shell find crates -name out -prune -o \( -name '*.rt' -o -name '*.antt' \) -print)
 PREFIX = /usr/local
 LIBDIR = $(PREFIX)/lib
 INCLUDEDIR = $(PREFIX)/include
@@ -21,15 +21,17 @@ all: $(ARCHIVE)
 
 $(ARCHIVE): $(SOURCES)
 	@echo "proving the library and all that it leans on, then building it: some minutes the first time"
-	for crate in $(EXPORTING); do tools/here rt staticlib $$crate || exit 1; done
-	cd target && for crate in $(EXPORTING); do ar x staticlib/lib$$crate.a || exit 1; done
+	for crate in $(EXPORTING); do (cd crates/$$crate && ../../tools/here rt lib) || exit 1; done
+	mkdir -p target
+	cd target && for crate in $(EXPORTING); do ar x ../crates/$$crate/out/lib$$crate.a || exit 1; done
 	rm -f $@
 	cd target && ar rcs $(notdir $@) $(OBJECTS) && rm $(OBJECTS)
 
-# rt leaves a program that is proved as it is, so that it is marked as fresh.
+# rt builds a program to run it: here on no input, for which it prints nothing.
 target/bin/lister: $(SOURCES)
-	rt check lister
-	touch $@
+	cd crates/lister && rt run </dev/null
+	mkdir -p $(@D)
+	cp crates/lister/out/lister $@
 
 install: $(ARCHIVE)
 	install -d $(addprefix $(DESTDIR),$(sort $(dir $(INSTALLED))))

@@ -14,8 +14,7 @@ use refusals::Refusal;
 use state::{Phase, State};
 use writer::Answer;
 
-#[unsafe(no_mangle)]
-pub extern "C" fn fadc250_set_up(settings: &[u64], state: &mut [u64]) -> u32
+pub fn fadc250_set_up(settings: &[u64], state: &mut [u64]) -> u32
     ensures { SetUpFace settings.now state.old result state.new }
 {
     let loaded = settings_or_none(settings);
@@ -55,13 +54,7 @@ fn put_answer(numbers: &mut [u64], answer: Answer) -> u32
     put_back(numbers, refusal, state)
 }
 
-#[unsafe(no_mangle)]
-pub extern "C" fn fadc250_open_block(
-    state: &mut [u64],
-    words: &mut [u32],
-    number: u32,
-    events: u32,
-) -> u32
+pub fn fadc250_open_block(state: &mut [u64], words: &mut [u32], number: u32, events: u32) -> u32
     ensures { OpenBlockFace state.old words.old number events result state.new words.new }
 {
     let loaded = state_or_none(state);
@@ -80,8 +73,7 @@ fn place_event(numbers: &mut [u64], number: u32, time: u64, triggers: u32)
     numbers[places::TRIGGERS] = triggers as u64;
 }
 
-#[unsafe(no_mangle)]
-pub extern "C" fn fadc250_open_event(state: &mut [u64], number: u32, time: u64) -> u32
+pub fn fadc250_open_event(state: &mut [u64], number: u32, time: u64) -> u32
     ensures { OpenEventFace state.old number time result state.new }
 {
     let loaded = state_or_none(state);
@@ -104,13 +96,7 @@ fn place_mark(numbers: &mut [u64], channel: u32)
     numbers[places::MARKS] = numbers[places::MARKS] + (1 << channel);
 }
 
-#[unsafe(no_mangle)]
-pub extern "C" fn fadc250_post(
-    state: &mut [u64],
-    store: &mut [u16],
-    channel: u32,
-    window: &[u16],
-) -> u32
+pub fn fadc250_post(state: &mut [u64], store: &mut [u16], channel: u32, window: &[u16]) -> u32
     ensures { PostFace state.old store.old channel window.now result state.new store.new }
 {
     let loaded = state_or_none(state);
@@ -123,8 +109,7 @@ pub extern "C" fn fadc250_post(
     refusals::number(refusal)
 }
 
-#[unsafe(no_mangle)]
-pub extern "C" fn fadc250_close(state: &mut [u64], store: &[u16], words: &mut [u32]) -> u32
+pub fn fadc250_close(state: &mut [u64], store: &[u16], words: &mut [u32]) -> u32
     ensures { CloseFace state.old store.now words.old false result state.new words.new }
 {
     let loaded = state_or_none(state);
@@ -132,12 +117,7 @@ pub extern "C" fn fadc250_close(state: &mut [u64], store: &[u16], words: &mut [u
     put_answer(state, answer)
 }
 
-#[unsafe(no_mangle)]
-pub extern "C" fn fadc250_close_with_scalers(
-    state: &mut [u64],
-    store: &[u16],
-    words: &mut [u32],
-) -> u32
+pub fn fadc250_close_with_scalers(state: &mut [u64], store: &[u16], words: &mut [u32]) -> u32
     ensures { CloseFace state.old store.now words.old true result state.new words.new }
 {
     let loaded = state_or_none(state);
@@ -155,8 +135,7 @@ fn in_high(number: u32, length: usize) -> u64
     number as u64 * 4294967296
 }
 
-#[unsafe(no_mangle)]
-pub extern "C" fn fadc250_finish(state: &mut [u64], words: &mut [u32]) -> u64
+pub fn fadc250_finish(state: &mut [u64], words: &mut [u32]) -> u64
     ensures { FinishFace state.old words.old result state.new words.new }
 {
     let loaded = state_or_none(state);

@@ -5,8 +5,7 @@
 ghost use Rattle.std.specs.Prelude.{◌≡◌};
 ghost use Rattle.bytecheck.specs.Check.{check_number};
 
-#[unsafe(no_mangle)]
-pub extern "C" fn fadc250_check(bytes: &[u8]) -> u64
+pub fn fadc250_check(bytes: &[u8]) -> u64
     ensures { result ≡ check_number bytes.now }
 {
     bytecheck::check_bytes(bytes)

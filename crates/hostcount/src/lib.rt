@@ -24,8 +24,7 @@ fn put_counts(numbers: &mut [u64], answer: Answer) -> u32
     refusals::number(refusal)
 }
 
-#[unsafe(no_mangle)]
-pub extern "C" fn fadc250_count(state: &mut [u64], frames: &[u16]) -> u32
+pub fn fadc250_count(state: &mut [u64], frames: &[u16]) -> u32
     ensures { CountFace state.old frames.now result state.new }
 {
     let loaded = state_or_none(state);
@@ -33,8 +32,7 @@ pub extern "C" fn fadc250_count(state: &mut [u64], frames: &[u16]) -> u32
     put_counts(state, answer)
 }
 
-#[unsafe(no_mangle)]
-pub extern "C" fn fadc250_latch(state: &mut [u64]) -> u32
+pub fn fadc250_latch(state: &mut [u64]) -> u32
     ensures { LatchFace state.old result state.new }
 {
     let loaded = state_or_none(state);
@@ -42,8 +40,7 @@ pub extern "C" fn fadc250_latch(state: &mut [u64]) -> u32
     put_counts(state, answer)
 }
 
-#[unsafe(no_mangle)]
-pub extern "C" fn fadc250_reset(state: &mut [u64]) -> u32
+pub fn fadc250_reset(state: &mut [u64]) -> u32
     ensures { ResetFace state.old result state.new }
 {
     let loaded = state_or_none(state);

@@ -70,13 +70,7 @@ fn put_found(out: &mut [u32], found: Pulses)
     copies::put32(out, THIRD, &third);
 }
 
-#[unsafe(no_mangle)]
-pub extern "C" fn fadc250_find(
-    settings: &[u64],
-    channel: u32,
-    window: &[u16],
-    out: &mut [u32],
-) -> u32
+pub fn fadc250_find(settings: &[u64], channel: u32, window: &[u16], out: &mut [u32]) -> u32
     ensures { FindFace settings.now channel window.now out.old result out.new }
 {
     // Asked before they are loaded, which asks again: the compiler then keeps no number for both ways, and asks once.

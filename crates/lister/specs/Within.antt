@@ -6,7 +6,7 @@ use Rattle.lister.specs.declared.Input.TheVariants as I
 
 abbrev pub bytes_read : Input → ℕ
 bytes_read (I.Bytes n) = n
-bytes_read I.Failed = 0
+bytes_read (I.Failed error) = 0
 
 -- they lie in the buffer
 pub record Within (r : Input) (input : List ℕ) : Type 0 where

@@ -3,68 +3,77 @@
 
 ghost use Rattle.lister.specs.Within.{Within};
 
-use libc::{STDERR_FILENO, STDIN_FILENO, STDOUT_FILENO};
 use listing::{LONGEST, Listed};
+use std::io;
+use std::io::Read;
 
-// How many bytes were read; or that reading failed.
+// How many bytes were read; or that reading failed, and why.
 #[derive(Clone, Copy)]
 enum Input {
     Bytes(usize),
-    Failed,
+    Failed(io::Error),
 }
 
-// Called nowhere that can be reached.
-fn never()
-    requires { ⊥ }
-{}
-
 // Reads until the buffer is full or the input ends.
-fn read_all(fd: i32, input: &mut [u8]) -> Input
+fn read_all(from: &mut impl Read, input: &mut [u8]) -> Input
     ensures { Within result input.new }
 {
     let mut done: usize = 0;
     while done < input.len() {
-        let got = libc::read(fd, &mut input[done..]);
-        if got < 0 {
-            return Input::Failed;
+        match from.read(&mut input[done..]) {
+            Err(error) => return Input::Failed(error),
+            Ok(0) => return Input::Bytes(done),
+            Ok(more) => done += more,
         }
-        let more = io::count(got, &input[done..]);
-        if more == 0 {
-            return Input::Bytes(done);
-        }
-        done += more;
     }
     Input::Bytes(done)
 }
 
-fn write_text(text: &[u8]) {
-    if !io::write_all(STDOUT_FILENO, text) {
-        os::fail(b"lister: the text could not be written");
+// An error's text without its number, which stands behind it.
+fn words(text: &str) -> &str {
+    match text.rsplit_once(" (os error ") {
+        Some((words, _)) => words,
+        None => text,
+    }
+}
+
+// Says what failed, and why in the system's words.
+fn fail(rt: &(impl Eprint + Alloc), what: &str, error: io::Error) -> io::Result<()> {
+    let text = format!(in rt.alloc(); "{error}")?;
+    let why = words(text.as_str());
+    eprintln!(rt; "lister: {what}: {why}")
+}
+
+fn write_text(rt: &(impl Print + Eprint + Alloc), text: &[u8]) -> io::Result<()> {
+    match rt.write_all(text) {
+        Ok(()) => Ok(()),
+        Err(error) => fail(rt, "the text could not be written", error),
     }
 }
 
 // Writes the text of the bytes. The buffer has room for the longest.
-fn print(bytes: &[u8]) {
+fn print(rt: &(impl Print + Eprint + Alloc), bytes: &[u8]) -> io::Result<()> {
     let mut text = [0u8; 376854];
     match listing::list(bytes, &mut text) {
-        Listed::Text(length) => write_text(&text[..length]),
-        Listed::NoRoom(_) => never(),
+        Listed::Text(length) => write_text(rt, &text[..length]),
+        // Every text has room.
+        Listed::NoRoom(_) => unreachable!(),
     }
 }
 
 // One byte more than an input may have is read, and no more.
-fn main() {
+fn main(rt: HostRuntime) -> io::Result<()> {
     let mut input = [0u8; 65537];
-    match read_all(STDIN_FILENO, &mut input) {
+    match read_all(&mut rt.stdin(), &mut input) {
         Input::Bytes(count) => {
-            print(&input[..count]);
+            print(&rt, &input[..count])?;
             if LONGEST < count {
-                io::write_all(
-                    STDERR_FILENO,
-                    b"lister: more than 65536 bytes: `./list --long FILE` lists longer files\n",
-                );
+                eprintln!(rt;
+                    "lister: more than 65536 bytes: `./list --long FILE` lists longer files"
+                )?;
             }
+            Ok(())
         }
-        Input::Failed => os::fail(b"lister: the input could not be read"),
+        Input::Failed(error) => fail(&rt, "the input could not be read", error),
     }
 }

@@ -1,0 +1,13 @@
+// What C links to check a block: the call of `hostcheck`, under its own name and with the clause that it has there. It is an
+// object of its own, so that its step over a word has one caller and is compiled in its place.
+#![tactic(auto)]
+
+ghost use Rattle.std.specs.Prelude.{◌≡◌};
+ghost use Rattle.bytecheck.specs.Check.{check_number};
+
+#[unsafe(no_mangle)]
+pub extern "C" fn fadc250_check(bytes: &[u8]) -> u64
+    ensures { result ≡ check_number bytes.now }
+{
+    hostcheck::fadc250_check(bytes)
+}
