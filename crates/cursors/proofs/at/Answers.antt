@@ -1,5 +1,5 @@
 -- `cursors::at` meets its contract. Assumes nothing.
-use Rattle.std.proofs.Common.{sym, rules}
+use Rattle.std.proofs.Common.{sym}
 use Rattle.cursors.specs.CursorsLaws.{get_d_out}
 use Rattle.cursors.proofs.at.Goals as goal
 

@@ -1,5 +1,4 @@
 -- `cursors::cursor_of` meets its contract. Assumes nothing.
-use Rattle.std.proofs.Common.{rules}
 use Rattle.cursors.specs.CursorsLaws.{cursor_made}
 use Rattle.cursors.proofs.cursor_of.Goals as goal
 

@@ -1,5 +1,4 @@
 -- `cursors::is_scan` meets its contract. Assumes nothing.
-use Rattle.std.proofs.Common.{rules}
 use Rattle.cursors.specs.CursorsLaws.{scan_asked}
 use Rattle.cursors.proofs.is_scan.Goals as goal
 

@@ -1,5 +1,4 @@
 -- `cursors::put_scan` meets its contract. Assumes nothing.
-use Rattle.std.proofs.Common.{rules}
 use Rattle.cursors.specs.CursorsLaws.{scan_stored_lem}
 use Rattle.cursors.proofs.put_scan.Goals as goal
 

@@ -1,5 +1,4 @@
 -- `cursors::scan_from` meets its contract. Assumes nothing.
-use Rattle.std.proofs.Common.{rules}
 use Rattle.cursors.specs.CursorsLaws.{scan_loaded}
 use Rattle.cursors.proofs.scan_from.Goals as goal
 

@@ -1,6 +1,5 @@
 -- `hostfind::fadc250_find` meets its contract. Assumes nothing.
-use Rattle.std.proofs.Common.{sym, ◌∙◌, rules}
-use borrow.Author.Tests.{not-true}
+use Rattle.std.proofs.Common.{sym, ◌∙◌}
 use Rattle.hostfind.specs.FoundLaws.{found_small, find_none, find_short, find_face}
 use Rattle.hostfind.proofs.fadc250_find.Goals as goal
 

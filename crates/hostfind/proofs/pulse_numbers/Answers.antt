@@ -1,5 +1,4 @@
 -- `hostfind::pulse_numbers` meets its contract. Assumes nothing.
-use Rattle.std.proofs.Common.{rules}
 use Rattle.hostfind.specs.Found.{pulse_numbers}
 use Rattle.hostfind.proofs.pulse_numbers.Goals as goal
 

@@ -1,5 +1,5 @@
 -- `hostfind::pulse_row` meets its contract. Assumes nothing.
-use Rattle.std.proofs.Common.{sym, ◌∙◌, rules}
+use Rattle.std.proofs.Common.{sym, ◌∙◌}
 use Rattle.finder.specs.Find.{no_pulse}
 use Rattle.hostfind.specs.FoundLaws.{row_full, row_empty}
 use Rattle.hostfind.proofs.pulse_row.Goals as goal

@@ -1,5 +1,5 @@
 -- `hostfind::put_found` meets its contract. Assumes nothing.
-use Rattle.std.proofs.Common.{arith, rules}
+use Rattle.std.proofs.Common.{arith}
 use Rattle.hostfind.specs.FoundLaws.{found_put}
 use Rattle.hostfind.proofs.put_found.Goals as goal
 

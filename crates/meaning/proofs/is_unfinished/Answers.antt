@@ -1,5 +1,5 @@
 -- `meaning::is_unfinished` meets its contract.
-use Rattle.std.proofs.Common.{◌≡◌, refl, true, [], ◌∷◌, rules}
+use Rattle.std.proofs.Common.{◌≡◌, refl, true, [], ◌∷◌}
 use types.Run.{OneOf, miss}
 use denote.Enum.Declared.{tag_of}
 use Rattle.scan.specs.declared.Stage.{Stage}

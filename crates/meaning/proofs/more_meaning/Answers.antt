@@ -1,5 +1,4 @@
 -- `meaning::more_meaning` meets its contract.
-use Rattle.std.proofs.Common.{rules}
 use Rattle.meaning.proofs.more_meaning.Goals as goal
 
 pub returns-in-Head : goal.returns-in-Head

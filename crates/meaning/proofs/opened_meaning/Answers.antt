@@ -1,5 +1,5 @@
 -- `meaning::opened_meaning` meets its contract.
-use Rattle.std.proofs.Common.{ne_eqb, rules}
+use Rattle.std.proofs.Common.{ne_eqb}
 use Rattle.meaning.proofs.opened_meaning.Goals as goal
 
 pub returns-then-tag-eq-TAG : goal.returns-then-tag-eq-TAG

@@ -1,5 +1,4 @@
 -- `meaning::raw_meaning` meets its contract.
-use Rattle.std.proofs.Common.{rules}
 use Rattle.meaning.proofs.raw_meaning.Goals as goal
 
 pub returns-then-some : goal.returns-then-some

@@ -1,5 +1,5 @@
 -- `meaning::scalers_meaning` meets its contract.
-use Rattle.std.proofs.Common.{ne_eqb, rules}
+use Rattle.std.proofs.Common.{ne_eqb}
 use Rattle.meaning.proofs.scalers_meaning.Goals as goal
 
 pub returns-then-n-eq0 : goal.returns-then-n-eq0

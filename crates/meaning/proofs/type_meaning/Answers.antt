@@ -1,5 +1,4 @@
 -- `meaning::type_meaning` meets its contract.
-use Rattle.std.proofs.Common.{rules}
 use Rattle.meaning.proofs.type_meaning.Goals as goal
 
 pub returns-in-Start : goal.returns-in-Start

@@ -1,5 +1,5 @@
 -- `questions::at_limit` meets its contract.
-use Rattle.std.proofs.Common.{sym, ◌∙◌, ne_eqb, rules}
+use Rattle.std.proofs.Common.{sym, ◌∙◌, ne_eqb}
 use mathlib.Core.Bool.{and-true, and-false}
 use Rattle.meaning.specs.Meaning.{unfinished}
 use Rattle.questions.specs.Questions.{at_limit}

@@ -1,5 +1,4 @@
 -- `questions::block_wrong` meets its contract.
-use Rattle.std.proofs.Common.{rules}
 use Rattle.questions.proofs.block_wrong.Goals as goal
 
 pub returns : goal.returns

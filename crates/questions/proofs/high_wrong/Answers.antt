@@ -1,5 +1,4 @@
 -- `questions::high_wrong` meets its contract.
-use Rattle.std.proofs.Common.{rules}
 use Rattle.questions.proofs.high_wrong.Goals as goal
 
 pub returns : goal.returns

@@ -1,5 +1,4 @@
 -- `questions::pair_bits_wrong` meets its contract.
-use Rattle.std.proofs.Common.{rules}
 use Rattle.raw.specs.Words.{pair_of}
 use Rattle.questions.proofs.pair_bits_wrong.Goals as goal
 

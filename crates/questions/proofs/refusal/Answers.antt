@@ -1,5 +1,5 @@
 -- `questions::refusal` meets its contract.
-use Rattle.std.proofs.Common.{not, rules}
+use Rattle.std.proofs.Common.{not}
 use mathlib.Core.Bool.{or-false}
 use Rattle.ground.specs.Tests.{first_of}
 use Rattle.framing.specs.Words.{parameters_fixed, trailer_of, event_header_of, filler_of, scalers_fixed}

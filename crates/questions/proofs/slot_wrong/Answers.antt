@@ -1,5 +1,4 @@
 -- `questions::slot_wrong` meets its contract.
-use Rattle.std.proofs.Common.{rules}
 use Rattle.questions.proofs.slot_wrong.Goals as goal
 
 pub returns : goal.returns

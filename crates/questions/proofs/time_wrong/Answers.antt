@@ -1,5 +1,5 @@
 -- `questions::time_wrong` meets its contract.
-use Rattle.std.proofs.Common.{ℕ, ◌≡◌, refl, false, [], ◌∷◌, rules}
+use Rattle.std.proofs.Common.{ℕ, ◌≡◌, refl, false, [], ◌∷◌}
 use types.Run.{OneOf, miss}
 use denote.Enum.Declared.{tag_of}
 use Rattle.scan.specs.declared.Stage.{Stage}

@@ -1,5 +1,4 @@
 -- `questions::trailer_wrong` meets its contract.
-use Rattle.std.proofs.Common.{rules}
 use Rattle.framing.specs.Words.{trailer_of}
 use Rattle.questions.proofs.trailer_wrong.Goals as goal
 
