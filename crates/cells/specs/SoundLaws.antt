@@ -6,6 +6,7 @@ use Rattle.ground.specs.TestsLaws.{or_none}
 use Rattle.fields.specs.Word.{field_at}
 use Rattle.framing.specs.declared.trigger_time.TriggerTime.{TriggerTime}
 use Rattle.framing.specs.Words.{trigger_time_of, trigger_time_high_of}
+use Rattle.raw.specs.Words.{window_of, pulse_raw_of}
 use Rattle.items.specs.Items.{item_from, fixed_in}
 use Rattle.items.specs.declared.Form.{Form}
 use Rattle.items.specs.declared.Form.TheVariants as F
@@ -24,6 +25,7 @@ use Rattle.rawitems.specs.declared.Pairing.TheVariants as G
 use Rattle.rawitems.specs.Pairs.{pairs_from}
 use Rattle.follow.specs.Follow.{on_high, high_from}
 use Rattle.records.specs.declared.answer.Record.{Record}
+use Rattle.records.specs.declared.answer.Record.TheVariants as R
 use Rattle.records.specs.declared.answer.Next.{Next}
 use Rattle.records.specs.declared.answer.Next.TheVariants as N
 use Rattle.records.specs.Next.{with_pairs, with_high, time_from, record_from, from_judged, next_from, next_at}
@@ -98,15 +100,15 @@ next_sound s (word ∷ words) = by_step (step_at s word) refl
     by_form F.Event t e = tt
     by_form F.Clock t e = time_sound (trigger_time_of word) t words (low_part word) (clock_stage s t word (accepted s word e).scan)
     by_form F.ClockHigh t e = tt
-    by_form F.Window t e = pairs_sound _ t.place (λ p. tt) (pairs_from t 0 words)
-    by_form F.Raw t e = pairs_sound _ t.place (λ p. tt) (pairs_from t 0 words)
+    by_form F.Window t e = pairs_sound (λ (p : Pairs). R.Window (window_of word) p) t.place (λ p. tt) (pairs_from t 0 words)
+    by_form F.Raw t e = pairs_sound (λ (p : Pairs). R.Raw (pulse_raw_of word) p) t.place (λ p. tt) (pairs_from t 0 words)
     by_form F.Pair t e = tt
     by_form F.Integral t e = tt
     by_form F.Time t e = tt
     by_form F.Pedestal t e = tt
     by_form F.Empty t e = tt
     by_form F.Filler t e = tt
-    by_form F.Scalers t e = pairs_sound _ t.place (λ p. tt) (pairs_from t 0 words)
+    by_form F.Scalers t e = pairs_sound (λ (p : Pairs). R.Scalers p) t.place (λ p. tt) (pairs_from t 0 words)
     by_form F.Scaler t e = tt
 
     by_step : (y : Step) → step_at s word ≡ y → Sound (from_judged (with_item word y) s.place words)

@@ -11,4 +11,4 @@ returns-then-number-eq0 c =
 pub returns : goal.returns
 returns c =
     let a = c.args in
-    stopped_broken a.fillers a.number a.place (ne_eqb _ _ c.if-number-eq0.false) c.put_fill-filled.ensures c.Put-refused.ensures
+    stopped_broken a.fillers a.number a.place (ne_eqb _ _ c.if-number-eq0.false) c.put_fill-filled.ensures c.put_refused.ensures

@@ -1,5 +1,5 @@
 -- `entries::first_word` meets its contract.
-use Rattle.std.proofs.Common.{ℕ, ap, sym, ◌∙◌, List, get_or, rules}
+use Rattle.std.proofs.Common.{ℕ, ap, sym, ◌∙◌, List, get_or}
 use Rattle.fields.specs.BytesLaws.{words_none, words_some}
 use Rattle.entries.proofs.first_word.Goals as goal
 

@@ -1,5 +1,5 @@
 -- `entries::list_item` meets its contract: each record's line.
-use Rattle.std.proofs.Common.{refl, rules}
+use Rattle.std.proofs.Common.{refl}
 use Rattle.entries.specs.RecordLaws.{item_line, item_none, item_clock}
 use Rattle.entries.proofs.list_item.Goals as goal
 

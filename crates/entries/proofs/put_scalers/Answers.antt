@@ -1,5 +1,5 @@
 -- `entries::put_scalers` meets its contract: the name, the words, the line feed.
-use Rattle.std.proofs.Common.{[], ◌∷◌, rules}
+use Rattle.std.proofs.Common.{[], ◌∷◌}
 use Rattle.written.specs.PageLaws.{put_then}
 use Rattle.written.specs.Line.{line_text}
 use Rattle.entries.proofs.put_scalers.Goals as goal

@@ -1,15 +1,12 @@
 -- `entries::put_words` meets its contract: the words that are left, put where the text stands, give the page asked for.
-use Rattle.std.proofs.Common.{ℕ, ◌-◌, ◌≤◌, ◌≡◌, refl, sym, ◌∙◌, List, [], ◌∷◌, arith, length, drop, rules}
+use Rattle.std.proofs.Common.{ℕ, ◌≡◌, refl, sym, ◌∙◌, List, [], ◌∷◌, arith, rules}
 use types.Run.{OneOf, miss}
 use borrow.Enum.Refused.{opened}
 use denote.Enum.Declared.{tag_of}
-use Rattle.fields.specs.Bytes.{words_of_bytes}
 use Rattle.items.specs.declared.Item.{Item}
 use Rattle.items.specs.declared.Item.TheVariants as I
 use Rattle.items.specs.contracts.Item.{the_type}
-use Rattle.reader.specs.Reader.{read_from}
-use Rattle.written.specs.Page.{put}
-use Rattle.entries.specs.Entries.{scalers_in, scaler_cells}
+use Rattle.entries.specs.Entries.{scalers_in}
 use Rattle.entries.specs.AheadLaws.{scalers_turn, scalers_stop, scalers_other, scalers_end}
 use Rattle.entries.proofs.put_words.Goals as goal
 

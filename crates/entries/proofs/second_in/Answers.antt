@@ -1,5 +1,5 @@
 -- `entries::second_in` meets its contract: what one word more would give.
-use Rattle.std.proofs.Common.{◌∙◌, rules}
+use Rattle.std.proofs.Common.{◌∙◌}
 use Rattle.entries.specs.AheadLaws.{second_none, second_at_lem}
 use Rattle.entries.proofs.second_in.Goals as goal
 

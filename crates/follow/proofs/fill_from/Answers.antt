@@ -1,5 +1,5 @@
 -- `follow::fill_from` meets its contract.
-use Rattle.std.proofs.Common.{◌+◌, ◌-◌, ◌≡◌, refl, sym, ap, ◌∙◌, arith, rules, length, drop, drop_of_length-le}
+use Rattle.std.proofs.Common.{◌+◌, ◌≡◌, refl, sym, ap, ◌∙◌, arith, drop, drop_of_length-le}
 use Rattle.scan.specs.After.{onward}
 use Rattle.reader.specs.declared.Step.{Step}
 use Rattle.follow.specs.Follow.{on_filler, fill_from}

@@ -1,9 +1,6 @@
 -- `follow::fill_from` meets its contract.
-use Rattle.std.proofs.Common.{◌+◌, ◌-◌, ◌≡◌, refl, sym, ap, ◌∙◌, arith, rules, length, drop, drop_of_length-le}
-use Rattle.scan.specs.After.{onward}
-use Rattle.reader.specs.declared.Step.{Step}
-use Rattle.follow.specs.Follow.{on_filler, fill_from}
-use Rattle.follow.specs.AtLaws.{fill_at}
+use Rattle.std.proofs.Common.{◌-◌, ◌≡◌, length, drop}
+use Rattle.follow.specs.Follow.{fill_from}
 use Rattle.follow.proofs.fill_from.Given as goal
 
 abbrev pub invariant-loop-at : goal.invariant-loop-at

@@ -1,5 +1,4 @@
 -- `rawitems::pair_due` meets its contract.
-use Rattle.std.proofs.Common.{rules}
 use Rattle.rawitems.proofs.pair_due.Goals as goal
 
 pub returns-in-Raw : goal.returns-in-Raw

@@ -1,5 +1,4 @@
 -- `rawitems::pairs_end` meets its contract.
-use Rattle.std.proofs.Common.{rules}
 use Rattle.reader.proofs.Via.{via}
 use Rattle.rawitems.specs.Pairs.{pairs_from}
 use Rattle.rawitems.proofs.pairs_end.Goals as goal

@@ -1,10 +1,6 @@
 -- `rawitems::pairs_from` meets its contract.
-use Rattle.std.proofs.Common.{◌+◌, ◌-◌, ◌≡◌, refl, sym, ap, ◌∙◌, arith, rules, length, drop, drop_of_length-le}
-use Rattle.scan.specs.After.{onward}
-use Rattle.reader.specs.declared.Step.{Step}
-use Rattle.reader.proofs.Via.{via}
-use Rattle.rawitems.specs.Pairs.{pair_due, on_pair, pairs_from}
-use Rattle.rawitems.specs.AtLaws.{pairs_at_lem, pairs_stop}
+use Rattle.std.proofs.Common.{◌-◌, ◌≡◌, length, drop}
+use Rattle.rawitems.specs.Pairs.{pairs_from}
 use Rattle.rawitems.proofs.pairs_from.Given as goal
 
 abbrev pub invariant-loop-at : goal.invariant-loop-at

@@ -1,5 +1,5 @@
 -- `rawitems::part` meets its contract.
-use Rattle.std.proofs.Common.{ℕ, ap, le-leb, rules, take, drop}
+use Rattle.std.proofs.Common.{ℕ, ap, le-leb, take, drop}
 use native.Mathlib.Nat.{add-sub_cancel_left}
 use borrow.Author.Tests.{lt-leb}
 use Rattle.rawitems.specs.Pairs.{part_of}

@@ -1,5 +1,4 @@
 -- `rawsamples::put_pair` meets its contract: the first sample, then the second.
-use Rattle.std.proofs.Common.{rules}
 use Rattle.rawsamples.specs.RawSamplesLaws.{first_small, second_small, both_put}
 use Rattle.rawsamples.proofs.put_pair.Goals as goal
 

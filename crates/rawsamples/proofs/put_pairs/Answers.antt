@@ -1,7 +1,5 @@
 -- `rawsamples::put_pairs` meets its contract: the array with the samples that are left is the array asked for.
-use Rattle.std.proofs.Common.{◌-◌, ◌≡◌, refl, sym, ◌∙◌, rules, arith, length, drop}
-use Rattle.written.specs.Page.{put}
-use Rattle.rawsamples.specs.RawSamples.{samples_of}
+use Rattle.std.proofs.Common.{refl, sym, ◌∙◌, rules, arith}
 use Rattle.rawsamples.specs.RawSamplesLaws.{pairs_turn, pairs_done}
 use Rattle.rawsamples.proofs.put_pairs.Goals as goal
 

@@ -1,5 +1,5 @@
 -- `reader::judge_at` meets its contract.
-use Rattle.std.proofs.Common.{sym, rules}
+use Rattle.std.proofs.Common.{sym}
 use Rattle.reader.specs.ReaderLaws.{judge_by}
 use Rattle.reader.specs.AnswersLaws.{judge_says}
 use Rattle.reader.proofs.Via.{via}

@@ -1,5 +1,5 @@
 -- `reader::step_at` meets its contract.
-use Rattle.std.proofs.Common.{sym, ◌∙◌, rules}
+use Rattle.std.proofs.Common.{sym, ◌∙◌}
 use Rattle.reader.specs.ReaderLaws.{step_limit, step_form, step_unallowed, step_end}
 use Rattle.reader.specs.AnswersLaws.{step_says}
 use Rattle.reader.proofs.Via.{via}

@@ -1,5 +1,5 @@
 -- `runs::item_end` meets its contract.
-use Rattle.std.proofs.Common.{◌+◌, ◌-◌, ◌*◌, ◌≤◌, refl, sym, ap, ◌∙◌, arith, rules}
+use Rattle.std.proofs.Common.{◌+◌, ◌-◌, ◌*◌, ◌≤◌, refl, sym, ap, ◌∙◌, arith}
 use Rattle.fields.specs.Word.{read}
 use Rattle.stretches.specs.Stretches.{measure}
 use Rattle.stretches.specs.WordsLaws.{words_count}

@@ -1,7 +1,5 @@
 -- `runs::items_end` meets its contract. The invariant: all before is passed.
-use Rattle.std.proofs.Common.{◌-◌, ◌≤◌, arith, rules}
-use Rattle.fields.specs.Bytes.{words_of_bytes}
-use Rattle.runs.specs.Runs.{Passed}
+use Rattle.std.proofs.Common.{arith}
 use Rattle.runs.specs.RunsLaws.{passed_none, passed_more}
 use Rattle.runs.proofs.items_end.Goals as goal
 

@@ -1,8 +1,7 @@
 -- `runs::items_end` meets its contract. The invariant: all before is passed.
-use Rattle.std.proofs.Common.{◌-◌, ◌≤◌, arith, rules}
+use Rattle.std.proofs.Common.{◌-◌, ◌≤◌}
 use Rattle.fields.specs.Bytes.{words_of_bytes}
 use Rattle.runs.specs.Runs.{Passed}
-use Rattle.runs.specs.RunsLaws.{passed_none, passed_more}
 use Rattle.runs.proofs.items_end.Given as goal
 
 abbrev pub invariant-loop-k : goal.invariant-loop-k

@@ -1,5 +1,5 @@
 -- `runs::joined_at` meets its contract.
-use Rattle.std.proofs.Common.{◌+◌, ◌-◌, ◌*◌, refl, ◌∙◌, arith, rules}
+use Rattle.std.proofs.Common.{◌+◌, ◌-◌, ◌*◌, refl, ◌∙◌, arith}
 use Rattle.stretches.specs.WordsLaws.{part_first}
 use Rattle.runs.proofs.joined_at.Goals as goal
 

@@ -1,5 +1,5 @@
 -- `runs::past_items` meets its contract.
-use Rattle.std.proofs.Common.{refl, arith, rules}
+use Rattle.std.proofs.Common.{refl, arith}
 use Rattle.stretches.specs.WordsLaws.{words_count}
 use Rattle.runs.specs.RunsLaws.{onward_by}
 use Rattle.runs.proofs.past_items.Goals as goal

@@ -1,6 +1,5 @@
 -- `reader::window::window_step` meets its contract.
 use Rattle.std.proofs.Common.{◌≡◌, sym, ◌∙◌, not, ◌||◌}
-use borrow.Author.Tests.{not-true, not-false}
 use Rattle.ground.specs.Tests.{first_of}
 use Rattle.raw.specs.Words.{pair_of, pair_fixed}
 use Rattle.items.specs.Items.{item_from}

@@ -1,7 +1,5 @@
 -- `runs::events::events_end` meets its contract. The invariant: all before is passed.
-use Rattle.std.proofs.Common.{◌-◌, ◌≤◌, arith, rules}
-use Rattle.fields.specs.Bytes.{words_of_bytes}
-use Rattle.runs.specs.Runs.{PassedTo}
+use Rattle.std.proofs.Common.{arith}
 use Rattle.runs.specs.RunsLaws.{items_passed, events_more}
 use Rattle.runs.proofs.events.events_end.Goals as goal
 

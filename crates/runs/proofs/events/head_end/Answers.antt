@@ -1,5 +1,5 @@
 -- `runs::events::head_end` meets its contract.
-use Rattle.std.proofs.Common.{sym, ◌∙◌, arith, rules, eqb-true}
+use Rattle.std.proofs.Common.{sym, ◌∙◌, arith, eqb-true}
 use Rattle.ground.specs.TestsLaws.{and_left, and_right}
 use Rattle.fields.specs.Bytes.{words_of_bytes}
 use Rattle.stretches.specs.WordsLaws.{words_count}

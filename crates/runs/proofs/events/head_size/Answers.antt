@@ -1,6 +1,5 @@
 -- `runs::events::head_size` meets its contract.
-use Rattle.std.proofs.Common.{sym, ◌∙◌, arith, rules}
-use borrow.Author.Tests.{not-true, not-false}
+use Rattle.std.proofs.Common.{sym, ◌∙◌, arith}
 use Rattle.runs.specs.Runs.{head_size}
 use Rattle.runs.specs.RunsLaws.{size_high}
 use Rattle.runs.proofs.events.head_size.Goals as goal

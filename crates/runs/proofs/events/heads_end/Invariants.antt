@@ -1,8 +1,7 @@
 -- `runs::events::heads_end` meets its contract. The invariant: all before is passed.
-use Rattle.std.proofs.Common.{◌≤◌, arith, rules}
+use Rattle.std.proofs.Common.{◌≤◌}
 use Rattle.fields.specs.Bytes.{words_of_bytes}
 use Rattle.runs.specs.Runs.{PassedTo}
-use Rattle.runs.specs.RunsLaws.{events_none, events_more}
 use Rattle.runs.proofs.events.heads_end.Given as goal
 
 abbrev pub invariant-loop-n : goal.invariant-loop-n

@@ -1,5 +1,5 @@
 -- `runs::sets::few_end` meets its contract.
-use Rattle.std.proofs.Common.{◌-◌, ◌*◌, refl, arith, rules}
+use Rattle.std.proofs.Common.{◌-◌, ◌*◌, refl, arith}
 use Rattle.raw.specs.Plain.{plain}
 use Rattle.stretches.specs.StretchesLaws.{Counted, counted}
 use Rattle.runs.proofs.sets.few_end.Goals as goal

@@ -1,5 +1,4 @@
 -- `runs::sets::is_raw` meets its contract.
-use Rattle.std.proofs.Common.{rules}
 use Rattle.runs.specs.Runs.{raw_head}
 use Rattle.runs.proofs.sets.is_raw.Goals as goal
 

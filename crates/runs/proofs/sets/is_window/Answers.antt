@@ -1,5 +1,4 @@
 -- `runs::sets::is_window` meets its contract.
-use Rattle.std.proofs.Common.{rules}
 use Rattle.runs.proofs.sets.is_window.Goals as goal
 
 pub returns : goal.returns

@@ -1,5 +1,5 @@
 -- `runs::sets::raw_end` meets its contract.
-use Rattle.std.proofs.Common.{sym, ◌∙◌, arith, rules}
+use Rattle.std.proofs.Common.{sym, ◌∙◌, arith}
 use Rattle.stretches.specs.WordsLaws.{words_count}
 use Rattle.stretches.specs.StretchesLaws.{all_none, all_one}
 use Rattle.runs.specs.RunsLaws.{passed_none, raw_run}

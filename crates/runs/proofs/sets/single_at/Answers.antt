@@ -1,5 +1,5 @@
 -- `runs::sets::single_at` meets its contract.
-use Rattle.std.proofs.Common.{◌+◌, ◌-◌, ◌*◌, refl, ap, ◌∙◌, arith, rules}
+use Rattle.std.proofs.Common.{◌+◌, ◌-◌, ◌*◌, refl, ap, ◌∙◌, arith}
 use Rattle.stretches.specs.Stretches.{single}
 use Rattle.stretches.specs.WordsLaws.{part_first}
 use Rattle.runs.proofs.sets.single_at.Goals as goal

@@ -1,6 +1,5 @@
 -- `runs::sets::window_end` meets its contract.
-use Rattle.std.proofs.Common.{◌+◌, ◌-◌, ◌*◌, ◌/◌, ◌≡◌, refl, sym, ◌∙◌, true, arith, rules}
-use borrow.Author.Tests.{not-false}
+use Rattle.std.proofs.Common.{◌+◌, ◌-◌, ◌*◌, ◌/◌, ◌≡◌, refl, sym, ◌∙◌, true, arith}
 use Rattle.fields.specs.Bytes.{words_of_bytes}
 use Rattle.raw.specs.Plain.{plain}
 use Rattle.stretches.specs.WordsLaws.{words_count}
