@@ -1,5 +1,5 @@
 -- `bytecheck::check_bytes` meets its contract.
-use Rattle.std.proofs.Common.{ℕ, ◌+◌, ◌*◌, ◌/◌, ◌^◌, ◌≤◌, ◌%◌, ◌-◌, sym, ap, ◌∙◌, ◌≡◌, arith, ne_eqb, rules, drop_of_length-le, length, drop}
+use Rattle.std.proofs.Common.{ℕ, ◌+◌, ◌*◌, ◌^◌, ◌%◌, sym, ap, ◌∙◌, ◌≡◌, arith, ne_eqb, drop_of_length-le, length, drop}
 use Rattle.reader.specs.Reader.{step_at, on_step, end_number, check_from}
 use Rattle.scan.specs.After.{start_of}
 use Rattle.reader.specs.RunLaws.{end_by}

@@ -1,5 +1,5 @@
 -- `glance::glance` meets its contract: no word is known at the limit.
-use Rattle.std.proofs.Common.{sym, ◌∙◌, rules}
+use Rattle.std.proofs.Common.{sym, ◌∙◌}
 use Rattle.glance.specs.Quick.{quick_of}
 use Rattle.glance.proofs.glance.Goals as goal
 

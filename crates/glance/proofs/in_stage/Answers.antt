@@ -1,6 +1,5 @@
 -- `glance::in_stage` meets its contract: each stage by itself.
-use Rattle.std.proofs.Common.{ap, arith, ltb-true, rules, not}
-use borrow.Author.Tests.{not-false}
+use Rattle.std.proofs.Common.{ap, arith, ltb-true, not}
 use Rattle.ground.specs.TestsLaws.{and_left}
 use Rattle.glance.specs.declared.Kind.TheVariants as K
 use Rattle.glance.specs.declared.Quick.TheVariants as Q

@@ -1,5 +1,4 @@
 -- `glance::is_plain` meets its contract.
-use Rattle.std.proofs.Common.{rules}
 use Rattle.raw.specs.Plain.{plain}
 use Rattle.glance.proofs.is_plain.Goals as goal
 

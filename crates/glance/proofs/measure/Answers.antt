@@ -1,5 +1,5 @@
 -- `glance::measure` meets its contract: the tests in their order.
-use Rattle.std.proofs.Common.{sym, ap, ◌∙◌, rules}
+use Rattle.std.proofs.Common.{sym, ap, ◌∙◌}
 use Rattle.glance.specs.declared.Kind.TheVariants as K
 use Rattle.glance.specs.declared.Quick.TheVariants as Q
 use Rattle.glance.proofs.measure.Goals as goal

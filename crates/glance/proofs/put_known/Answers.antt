@@ -1,5 +1,5 @@
 -- `glance::put_known` meets its contract: the line of a known word, or none.
-use Rattle.std.proofs.Common.{sym, ap, ◌∙◌, rules}
+use Rattle.std.proofs.Common.{sym, ap, ◌∙◌}
 use Rattle.written.specs.Page.{Page}
 use Rattle.glance.specs.Quick.{on_to}
 use Rattle.glance.proofs.put_known.Goals as goal

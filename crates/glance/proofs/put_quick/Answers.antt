@@ -1,5 +1,4 @@
 -- `glance::put_quick` meets its contract: each kind's line.
-use Rattle.std.proofs.Common.{rules}
 use Rattle.glance.proofs.put_quick.Goals as goal
 
 pub returns-in-Pair : goal.returns-in-Pair

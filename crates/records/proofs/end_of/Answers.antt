@@ -1,5 +1,5 @@
 -- `records::end_of` meets its contract.
-use Rattle.std.proofs.Common.{ne_eqb, rules}
+use Rattle.std.proofs.Common.{ne_eqb}
 use Rattle.records.proofs.end_of.Goals as goal
 
 pub returns-then-number-eq0 : goal.returns-then-number-eq0

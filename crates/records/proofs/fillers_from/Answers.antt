@@ -1,5 +1,4 @@
 -- `records::fillers_from` meets its contract.
-use Rattle.std.proofs.Common.{rules}
 use Rattle.records.proofs.fillers_from.Goals as goal
 
 pub returns : goal.returns

@@ -1,5 +1,4 @@
 -- `records::record_from` meets its contract.
-use Rattle.std.proofs.Common.{rules}
 use Rattle.records.proofs.record_from.Goals as goal
 
 pub returns-in-Clock : goal.returns-in-Clock

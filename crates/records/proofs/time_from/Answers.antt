@@ -1,5 +1,4 @@
 -- `records::time_from` meets its contract.
-use Rattle.std.proofs.Common.{rules}
 use Rattle.reader.proofs.Via.{via}
 use Rattle.records.proofs.time_from.Goals as goal
 

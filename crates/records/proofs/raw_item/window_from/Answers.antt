@@ -1,5 +1,4 @@
 -- `records::raw_item::window_from` meets its contract.
-use Rattle.std.proofs.Common.{rules}
 use Rattle.reader.proofs.Via.{via}
 use Rattle.records.proofs.raw_item.window_from.Goals as goal
 
