@@ -5,7 +5,7 @@ use Rattle.std.proofs.Common.{◌∙◌, arith, zero-add, add-zero, length-drop}
 use Rattle.std.proofs.lemmas.Bool.{false≢true}
 use mathlib.Core.List.{List, [], ◌∷◌, ◌++◌, append_assoc, append-nil}
 use Rattle.fields.specs.Bytes.{words_of_bytes}
-use Rattle.fields.specs.BytesLaws.{words_none}
+use Rattle.fields.proofs.BytesLaws.{words_none}
 use Rattle.items.specs.declared.Item.{Item}
 use Rattle.scan.specs.declared.Scan.{Scan}
 use Rattle.reader.specs.declared.Step.{Step}

@@ -15,7 +15,7 @@ use Rattle.search.specs.SearchLaws.{tc_over}
 use Rattle.timing.specs.declared.Base.{Base}
 use Rattle.timing.specs.Time.{time_at}
 use Rattle.timing.specs.ByBase.{base_of, time_from}
-use Rattle.timing.specs.EdgeLaws.{base_time}
+use Rattle.timing.proofs.EdgeLaws.{base_time}
 use Rattle.finder.specs.declared.Pulse.{Pulse}
 use Rattle.finder.specs.Find.{pulse_at, pulses_from, no_pulse, searchable}
 use Rattle.finder.specs.Wanted.{coarse_pulse, pulse_from, is_tc}

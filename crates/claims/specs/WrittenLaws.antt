@@ -2,7 +2,7 @@
 use Rattle.std.specs.Prelude.{ℕ, zero, suc, ◌+◌, ◌-◌, ◌*◌, ◌/◌, ◌%◌, ◌^◌, ◌≤◌, min, ◌≡◌, refl, Bool, true, false, not, cond, ◌&&◌, ◌||◌, List, [], ◌∷◌, ◌++◌, leb, ltb, length, get_or, take, drop}
 use Rattle.std.proofs.Common.{sym, ap, ap₂, ◌∙◌, append_assoc, append-nil, arith, le-leb, length-take, length-drop}
 use Rattle.limits.specs.Limits.{most_samples}
-use Rattle.limits.specs.LimitsLaws.{most_samples_lem, most_pairs_lem}
+use Rattle.limits.proofs.LimitsLaws.{most_samples_lem, most_pairs_lem}
 use Rattle.ground.specs.TestsLaws.{Under, under, and_left, and_right}
 use Rattle.settings.specs.declared.Settings.{Settings}
 use Rattle.settings.specs.Ranges.{settings_ok}

@@ -4,7 +4,7 @@ use Rattle.std.proofs.Common.{sym, ap, ◌∙◌, arith, drop-drop, take_all}
 use mathlib.Core.List.{List, [], ◌∷◌, map}
 use Rattle.std.proofs.Math.ListN.{length-drop}
 use Rattle.fields.specs.Bytes.{words_of_bytes}
-use Rattle.fields.specs.BytesLaws.{words_none, words_some}
+use Rattle.fields.proofs.BytesLaws.{words_none, words_some}
 use Rattle.framing.specs.declared.scaler.ScalerWord.{ScalerWord}
 use Rattle.items.specs.declared.Item.{Item}
 use Rattle.items.specs.declared.Item.TheVariants as I

@@ -1,3 +1,2 @@
 pub mod Event
 pub mod Inner
-pub mod EventLaws

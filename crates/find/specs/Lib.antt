@@ -1,3 +1,1 @@
 pub mod Call
-pub mod CallLaws
-pub mod RulesLaws

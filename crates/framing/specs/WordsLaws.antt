@@ -2,7 +2,7 @@
 use Rattle.std.specs.Prelude.{ℕ, ◌*◌, ◌/◌, ◌^◌, ◌<◌, ◌≡◌, refl, true, [], ◌∷◌, get_or}
 use Rattle.std.proofs.Common.{arith, eqb-true}
 use Rattle.fields.specs.Word.{field_at, read, pack, fit, bits}
-use Rattle.fields.specs.WordLaws.{taken, built, true_T}
+use Rattle.fields.proofs.WordLaws.{taken, built, true_T}
 use Rattle.fields.specs.Tag.{defining, is_defining, is_continuation}
 use Rattle.fields.specs.TagLaws.{defined, continued}
 use Rattle.framing.specs.declared.block_header.BlockHeader.{BlockHeader}

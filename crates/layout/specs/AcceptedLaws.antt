@@ -3,7 +3,7 @@ use Rattle.std.specs.Prelude.{ℕ, ◌+◌, ◌-◌, ◌^◌, ◌<◌, ◌≡◌
 use Rattle.std.proofs.Common.{sym, ap, ◌∙◌, subst, arith, le-leb}
 use Rattle.ground.specs.TestsLaws.{or_none}
 use Rattle.fields.specs.Word.{read}
-use Rattle.fields.specs.WordLaws.{field_lt}
+use Rattle.fields.proofs.WordLaws.{field_lt}
 use Rattle.framing.specs.Words as W
 use Rattle.raw.specs.Words as R
 use Rattle.measures.specs.Words as N

@@ -5,7 +5,7 @@ use Rattle.std.proofs.Common.{ap, ◌∙◌, eq-eqb}
 use Rattle.ground.specs.Tests.{first_of}
 use Rattle.fields.specs.Word.{Field, read, pack, fit}
 use Rattle.fields.specs.Tag.{defining, is_defining, continuation, is_continuation}
-use Rattle.fields.specs.WordLaws.{tiles, taken, true_T}
+use Rattle.fields.proofs.WordLaws.{tiles, taken, true_T}
 use Rattle.framing.specs.Words as W
 use Rattle.framing.specs.WordsLaws.{block_header_there, parameters_there, trailer_there, event_header_there, trigger_time_there, trigger_time_high_there, scalers_there, scaler_there, empty_there, filler_there}
 use Rattle.raw.specs.Words as R

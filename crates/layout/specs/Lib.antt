@@ -3,11 +3,6 @@ pub mod Layout
 pub mod NothingLost
 pub mod FirstWrong
 pub mod Wrong
-pub mod WrongLaws
 pub mod LayoutLaws
 pub mod AcceptedLaws
 pub mod PassLaws
-pub mod GrammarLaws
-pub mod ParseLaws
-pub mod EndsLaws
-pub mod ExactLaws

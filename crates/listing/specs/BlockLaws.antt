@@ -6,7 +6,7 @@ use Rattle.std.proofs.Math.Bool.{cond}
 use mathlib.Core.List.{List, [], ◌∷◌, ◌++◌, append-nil}
 use Rattle.std.proofs.Math.ListN.{length, length-drop}
 use Rattle.fields.specs.Bytes.{words_of_bytes}
-use Rattle.fields.specs.BytesLaws.{words_none, words_some, words_drop, words_le}
+use Rattle.fields.proofs.BytesLaws.{words_none, words_some, words_drop, words_le}
 use Rattle.scan.specs.After.{start_of}
 use Rattle.reader.specs.Reader.{Reading, read_from}
 use Rattle.reader.specs.ReaderLaws.{ended}

@@ -22,11 +22,11 @@ use Rattle.meaning.specs.Meaning.{meaning_at, is_unallowed, unfinished}
 use Rattle.questions.specs.Questions.{at_limit, slot_wrong, item_wrong, count_wrong, of_form, refusal_of}
 use Rattle.reader.specs.Reader.{step_by, step_at, with_item, judge_at, Out, Whole, Broken, end_of, Reading, just, on_judged, read_from}
 use Rattle.reader.specs.declared.Step.TheVariants as S
-use Rattle.fields.specs.WordLaws.{field_lt}
+use Rattle.fields.proofs.WordLaws.{field_lt}
 use Rattle.fields.specs.Bytes.{words_of_bytes}
-use Rattle.fields.specs.BytesLaws.{words_le}
+use Rattle.fields.proofs.BytesLaws.{words_le}
 use Rattle.written.specs.Line.{Cell, Number, cell_of, Line, line_of}
-use Rattle.written.specs.LengthLaws.{Below, most, size, size_none, size_both, size_one}
+use Rattle.written.proofs.LengthLaws.{Below, most, size, size_none, size_both, size_one}
 use Rattle.lines.specs.declared.Second.{Second}
 use Rattle.lines.specs.declared.Second.TheVariants as N
 use Rattle.listing.specs.declared.Listed.{Listed}

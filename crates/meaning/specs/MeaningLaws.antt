@@ -5,7 +5,7 @@ use Rattle.std.proofs.lemmas.Bool.{false≢true, not-true, eqb-false}
 use Rattle.ground.specs.TestsLaws.{and_left, and_right}
 use Rattle.fields.specs.Word.{read}
 use Rattle.fields.specs.Tag.{is_defining, is_continuation}
-use Rattle.fields.specs.WordLaws.{field_lt}
+use Rattle.fields.proofs.WordLaws.{field_lt}
 use Rattle.types.specs.Types.{is_allowed}
 use Rattle.items.specs.Items.{tag_fields, type_of, is_of}
 use Rattle.items.specs.TypesLaws.{form_allowed}

@@ -2,7 +2,7 @@
 use Rattle.std.specs.Prelude.{ℕ, ◌^◌, ◌<◌, ◌≡◌, refl, true, get_or}
 use Rattle.std.proofs.Common.{eqb-true}
 use Rattle.fields.specs.Word.{read, pack, fit}
-use Rattle.fields.specs.WordLaws.{taken, built, true_T}
+use Rattle.fields.proofs.WordLaws.{taken, built, true_T}
 use Rattle.fields.specs.Tag.{is_defining}
 use Rattle.fields.specs.TagLaws.{defined}
 use Rattle.measures.specs.declared.integral.PulseIntegral.{PulseIntegral}

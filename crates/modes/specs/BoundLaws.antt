@@ -3,7 +3,7 @@ use Rattle.std.specs.Prelude.{ℕ, ◌+◌, ◌-◌, ◌*◌, ◌≤◌, ◌≡�
 use Rattle.std.proofs.Common.{arith, le_trans, mul-le-mul_right}
 use Rattle.settings.specs.declared.Settings.{Settings}
 use Rattle.limits.specs.Limits.{most_samples, pairs_of, most_pulse, most_channel}
-use Rattle.limits.specs.LimitsLaws.{most_raw_lem, raw_is, pulse_is, channel_is, pairs_is, pairs_most}
+use Rattle.limits.proofs.LimitsLaws.{most_raw_lem, raw_is, pulse_is, channel_is, pairs_is, pairs_most}
 use Rattle.finder.specs.declared.Pulse.{Pulse}
 use Rattle.finder.specs.declared.Pulses.{Pulses}
 use Rattle.search.specs.Search.{any_over}

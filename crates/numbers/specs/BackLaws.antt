@@ -1,7 +1,7 @@
 -- The numbers of settings and of a state in their ranges are settings and a state, and load back to them. Assumes nothing.
 use Rattle.std.specs.Prelude.{ℕ, zero, suc, ◌+◌, ◌*◌, ◌^◌, ◌≤◌, ◌<◌, ◌≡◌, refl, Bool, true, false, List, [], ◌∷◌, ◌++◌, length, get_or, set, take, drop}
 use Rattle.std.proofs.Common.{sym, ap, ap₂, ◌∙◌, subst, mod-eq_of_lt, pow-suc, arith, le-leb, length-drop, take-append-drop, take_all, take_at, drop_at}
-use Rattle.limits.specs.LimitsLaws.{most_event_lem}
+use Rattle.limits.proofs.LimitsLaws.{most_event_lem}
 use Rattle.scalers.specs.Scalers.{triggered}
 use Rattle.state.specs.declared.Phase.{Phase}
 use Rattle.state.specs.declared.Phase.TheVariants.{Idle, Block, Event}

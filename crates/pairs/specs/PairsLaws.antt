@@ -4,7 +4,7 @@ use Rattle.std.proofs.Common.{sym, ◌∙◌, arith, add-one, drop_of_length-le,
 use Rattle.std.specs.Int.Bits.{bit_and}
 use Rattle.std.proofs.lemmas.Nat.{and_block, and_mask}
 use Rattle.limits.specs.Limits.{most_samples, pairs_of, most_raw}
-use Rattle.limits.specs.LimitsLaws.{pairs_is, pairs_most, raw_is}
+use Rattle.limits.proofs.LimitsLaws.{pairs_is, pairs_most, raw_is}
 use Rattle.raw.specs.Words.{pair}
 use Rattle.items.specs.Items.{word_of}
 use Rattle.items.specs.declared.Item.TheVariants as I

@@ -3,7 +3,7 @@ use Rattle.std.specs.Prelude.{ℕ, ◌^◌, ◌<◌, ◌≡◌, refl, true, eqb,
 use Rattle.std.proofs.Common.{eqb-true}
 use Rattle.ground.specs.TestsLaws.{and_left, and_right}
 use Rattle.fields.specs.Word.{read, pack, fit}
-use Rattle.fields.specs.WordLaws.{taken, built, true_T}
+use Rattle.fields.proofs.WordLaws.{taken, built, true_T}
 use Rattle.fields.specs.Tag.{is_defining, is_continuation}
 use Rattle.fields.specs.TagLaws.{defined, continued}
 use Rattle.raw.specs.declared.window.WindowRaw.{WindowRaw}

@@ -1,4 +1,3 @@
 -- The samples of a raw item, and their laws.
 pub mod RawSamples
 pub mod Says
-pub mod RawSamplesLaws

@@ -6,7 +6,7 @@ use Rattle.std.proofs.lemmas.List.{length-map}
 use Rattle.ground.specs.Tests.{first_of}
 use Rattle.fields.specs.Word.{read}
 use Rattle.fields.specs.Tag.{is_continuation}
-use Rattle.fields.specs.WordLaws.{field_lt}
+use Rattle.fields.proofs.WordLaws.{field_lt}
 use Rattle.framing.specs.Words.{block_header_of, parameters_of, trailer_of, event_header_of, trigger_time_of, trigger_time_high_of, scalers_of, scaler_of, empty_of, filler_of}
 use Rattle.framing.specs.declared.trigger_time.TriggerTime.{TriggerTime}
 use Rattle.framing.specs.declared.scaler.ScalerWord.{ScalerWord}

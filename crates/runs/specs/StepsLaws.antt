@@ -7,12 +7,12 @@ use borrow.Author.Tests.{eqb-true, eqb-false, eq-eqb, ne_eqb}
 use Rattle.ground.specs.Tests.{first_of}
 use Rattle.ground.specs.TestsLaws.{and_left, and_right}
 use Rattle.fields.specs.Word.{field_at, read}
-use Rattle.fields.specs.WordLaws.{field_lt}
+use Rattle.fields.proofs.WordLaws.{field_lt}
 use Rattle.fields.specs.Tag.{is_defining, is_continuation}
 use Rattle.limits.specs.Limits.{pairs_of}
 use Rattle.framing.specs.Words.{event_header_of, trigger_time_of, trigger_time_high_of, trigger_time_high_fixed}
 use Rattle.measures.specs.Words.{time_fixed}
-use Rattle.limits.specs.LimitsLaws.{most_pairs_lem}
+use Rattle.limits.proofs.LimitsLaws.{most_pairs_lem}
 use Rattle.raw.specs.Words.{window_of, window_fixed, window_within, pulse_raw_fixed, pair_of, pair_fixed}
 use Rattle.items.specs.Items.{item_from}
 use Rattle.items.specs.declared.Form.{Form}

@@ -8,7 +8,7 @@ use borrow.Author.Tests.{leb-true, le-leb, ltb-true, lt-ltb, eqb-true}
 use Rattle.ground.specs.Tests.{all_of}
 use Rattle.ground.specs.TestsLaws.{and_left, and_right, Every, every, all_of_lem}
 use Rattle.limits.specs.Limits.{most_event}
-use Rattle.limits.specs.LimitsLaws.{most_event_lem}
+use Rattle.limits.proofs.LimitsLaws.{most_event_lem}
 use Rattle.settings.specs.declared.Settings.{Settings}
 use Rattle.settings.specs.Ranges.{ranges, settings_ok}
 use Rattle.scalers.specs.declared.Scalers.{Scalers}

@@ -3,7 +3,7 @@ use Rattle.std.specs.Prelude.{ℕ, ◌+◌, ◌*◌, ◌/◌, ◌≤◌, ◌<◌
 use Rattle.std.proofs.Common.{sym, ap, ◌∙◌, arith, length-take, length-drop, get_or-drop, get_or-take}
 use Rattle.std.proofs.Math.ListN.{get_or-eq_default}
 use Rattle.fields.specs.Bytes.{word_of_bytes, words_of_bytes}
-use Rattle.fields.specs.BytesLaws.{words_some, words_drop}
+use Rattle.fields.proofs.BytesLaws.{words_some, words_drop}
 
 -- as many words as fours of bytes
 pub words_count : (bytes : List ℕ) → length (words_of_bytes bytes) ≡ length bytes / 4

@@ -4,7 +4,7 @@ use Rattle.std.proofs.Common.{arith, add-one, drop-cons}
 use Rattle.std.proofs.lemmas.List.{length-map}
 use Rattle.items.specs.declared.Item.TheVariants as I
 use Rattle.limits.specs.Limits.{tail_words}
-use Rattle.limits.specs.LimitsLaws.{tail_words_lem}
+use Rattle.limits.proofs.LimitsLaws.{tail_words_lem}
 use Rattle.tail.specs.Tail.{word_items, scaler_items, tail_items}
 
 pub length_items : (latched : List ℕ) → length (word_items latched) ≡ length latched

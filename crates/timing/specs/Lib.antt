@@ -3,5 +3,3 @@ pub mod Time
 pub mod ByBase
 pub mod TimeLaws
 pub mod Asked
-pub mod EdgeLaws
-pub mod RangeLaws

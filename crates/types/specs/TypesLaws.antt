@@ -3,7 +3,7 @@ use Rattle.std.specs.Prelude.{ℕ, ◌+◌, ◌-◌, ◌^◌, ◌≡◌, Bool, t
 use Rattle.std.proofs.Common.{ap, ◌∙◌}
 use Rattle.std.specs.Int.Bits.{and_zero_r}
 use Rattle.fields.specs.Word.{field_at}
-use Rattle.fields.specs.WordLaws.{masked_field}
+use Rattle.fields.proofs.WordLaws.{masked_field}
 use Rattle.types.specs.Types.{is_allowed, has_slot, zeros_clear, RowSays}
 
 pub no_bits : {type : ℕ} {allowed slot : Bool} → allowed ≡ is_allowed type → slot ≡ has_slot type → ((word : ℕ) → true ≡ zeros_clear type word)

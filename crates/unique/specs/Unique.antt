@@ -34,7 +34,7 @@ use Rattle.search.proofs as search
 use Rattle.timing.proofs as timing
 use Rattle.finder.proofs as finder
 use Rattle.find.proofs as find
-use Rattle.find.specs.CallLaws as F
+use Rattle.find.proofs.CallLaws as F
 use Rattle.pairs.proofs as pairs
 use Rattle.pulse.proofs as pulse
 use Rattle.modes.proofs as modes
@@ -58,7 +58,7 @@ use Rattle.questions.proofs as questions
 use Rattle.reader.proofs as reader
 use Rattle.rawitems.proofs as rawitems
 use Rattle.rawsamples.proofs as rawsamples
-use Rattle.rawsamples.specs.RawSamplesLaws.{one_unpacking}
+use Rattle.rawsamples.proofs.RawSamplesLaws.{one_unpacking}
 use Rattle.follow.proofs as follow
 use Rattle.records.proofs as records
 use Rattle.copies.proofs as copies

@@ -5,7 +5,7 @@ use Rattle.limits.specs.Limits.{most_event}
 use Rattle.settings.specs.declared.Settings.{Settings}
 use Rattle.event.specs.Event.{event_items}
 use Rattle.event.specs.Inner.{event_length}
-use Rattle.event.specs.EventLaws.{length_event, event_least, event_most}
+use Rattle.event.proofs.EventLaws.{length_event, event_least, event_most}
 use Rattle.tail.specs.Tail.{tail_items}
 use Rattle.tail.specs.TailLaws.{tail_le}
 use Rattle.scalers.specs.Scalers.{nothing_counted}

@@ -3,6 +3,5 @@ pub mod Page
 pub mod PageLaws
 pub mod Line
 pub mod LineLaws
-pub mod LengthLaws
 pub mod Room
 pub mod RoomLaws

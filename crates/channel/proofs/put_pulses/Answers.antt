@@ -1,6 +1,6 @@
 -- `channel::put_pulses` meets its contract: in a turn what is left begins with the pulse that is found.
 use Rattle.std.proofs.Common.{arith}
-use Rattle.limits.specs.LimitsLaws.{most_samples_lem}
+use Rattle.limits.proofs.LimitsLaws.{most_samples_lem}
 use Rattle.search.specs.SearchLaws.{tc_over}
 use Rattle.finder.specs.FindLaws.{searched}
 use Rattle.channel.specs.PulsesLaws.{pulse_first, pulse_full, pulse_none, pulse_less}

@@ -1,6 +1,6 @@
 -- `entries::first_word` meets its contract.
 use Rattle.std.proofs.Common.{ℕ, ap, sym, ◌∙◌, List, get_or}
-use Rattle.fields.specs.BytesLaws.{words_none, words_some}
+use Rattle.fields.proofs.BytesLaws.{words_none, words_some}
 use Rattle.entries.proofs.first_word.Goals as goal
 
 pub returns-then-bytes-lt4 : goal.returns-then-bytes-lt4

@@ -1,8 +1,8 @@
 -- `event::channels_length` meets its contract: what is counted and what is left are the whole.
 use Rattle.std.proofs.Common.{arith, zero-add}
-use Rattle.limits.specs.LimitsLaws.{most_channel_lem}
+use Rattle.limits.proofs.LimitsLaws.{most_channel_lem}
 use Rattle.rows.specs.RowsLaws.{row_inside, row_short, part_row}
-use Rattle.event.specs.EventLaws.{count_turn, count_end, channels_most}
+use Rattle.event.proofs.EventLaws.{count_turn, count_end, channels_most}
 use Rattle.event.proofs.channels_length.Goals as goal
 
 pub loop-channel-init : goal.loop-channel-init

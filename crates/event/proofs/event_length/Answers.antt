@@ -1,9 +1,9 @@
 -- `event::event_length` meets its contract.
 use Rattle.std.proofs.Common.{ap, ℕ, ◌+◌, arith}
-use Rattle.limits.specs.LimitsLaws.{most_channel_lem}
+use Rattle.limits.proofs.LimitsLaws.{most_channel_lem}
 use Rattle.settings.specs.RangesLaws.{settings_in_range}
 use Rattle.event.specs.Inner.{event_length}
-use Rattle.event.specs.EventLaws.{channels_most}
+use Rattle.event.proofs.EventLaws.{channels_most}
 use Rattle.event.proofs.event_length.Goals as goal
 
 pub overflow_add-result-2 : goal.overflow_add-result-2

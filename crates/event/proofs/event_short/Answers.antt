@@ -1,12 +1,12 @@
 -- `event::event_short` meets its contract: no event is longer than the longest in its mode.
 use Rattle.std.proofs.Common.{◌≡◌, sym, ◌∙◌, Bool, true, false, cond, ◌+◌, ◌*◌, ◌≤◌, arith, ltb-false, le-ltb, le-leb}
 use Rattle.limits.specs.Limits.{tail_words}
-use Rattle.limits.specs.LimitsLaws.{most_channel_lem, tail_words_lem, most_event_lem}
+use Rattle.limits.proofs.LimitsLaws.{most_channel_lem, tail_words_lem, most_event_lem}
 use Rattle.settings.specs.RangesLaws.{settings_in_range}
 use Rattle.modes.specs.Channel.{mode_most}
 use Rattle.modes.specs.BoundLaws.{mode_most_lem}
 use Rattle.event.specs.Inner.{event_length}
-use Rattle.event.specs.EventLaws.{event_within, event_most}
+use Rattle.event.proofs.EventLaws.{event_within, event_most}
 use Rattle.event.proofs.event_short.Goals as goal
 use Rattle.event.proofs.event_short.Goals.{After-most_words-channel}
 

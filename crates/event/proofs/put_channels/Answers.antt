@@ -2,7 +2,7 @@
 use Rattle.std.proofs.Common.{arith}
 use Rattle.ground.specs.WritingLaws.{left_all}
 use Rattle.rows.specs.RowsLaws.{row_inside, row_short, part_row}
-use Rattle.event.specs.EventLaws.{channel_room, channel_less, channel_none}
+use Rattle.event.proofs.EventLaws.{channel_room, channel_less, channel_none}
 use Rattle.event.proofs.put_channels.Goals as goal
 
 pub loop-channel-init : goal.loop-channel-init

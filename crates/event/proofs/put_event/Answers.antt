@@ -12,7 +12,7 @@ use Rattle.event.specs.Event.{event_items}
 use Rattle.rows.specs.Inner.{Lent}
 use Rattle.event.specs.Inner.{event_length}
 use Rattle.rows.specs.RowsLaws.{lent_says}
-use Rattle.event.specs.EventLaws.{length_event}
+use Rattle.event.proofs.EventLaws.{length_event}
 use Rattle.event.proofs.put_event.Goals as goal
 use Rattle.event.proofs.put_event.Goals.{Else-event_short, Else-not-lent-time}
 

@@ -1,5 +1,5 @@
 -- `event::tail_length` meets its contract.
-use Rattle.limits.specs.LimitsLaws.{tail_words_lem}
+use Rattle.limits.proofs.LimitsLaws.{tail_words_lem}
 use Rattle.event.proofs.tail_length.Goals as goal
 
 pub returns-then-asked : goal.returns-then-asked

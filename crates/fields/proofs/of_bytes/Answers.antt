@@ -1,5 +1,5 @@
 -- `fields::of_bytes` meets its contract: bytes put in from the lowest up are packed.
-use Rattle.fields.specs.WordLaws.{stacked}
+use Rattle.fields.proofs.WordLaws.{stacked}
 use Rattle.fields.specs.Bytes.{four_bytes}
 use Rattle.fields.proofs.of_bytes.Goals as goal
 

@@ -1,5 +1,5 @@
 -- `finder::can_search` meets its contract. Assumes nothing.
-use Rattle.limits.specs.LimitsLaws.{most_samples_lem}
+use Rattle.limits.proofs.LimitsLaws.{most_samples_lem}
 use Rattle.finder.specs.Find.{searchable}
 use Rattle.finder.proofs.can_search.Goals as goal
 

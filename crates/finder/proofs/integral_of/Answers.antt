@@ -1,7 +1,7 @@
 -- `finder::integral_of` meets its contract. The invariant: what is summed and the sum of what is left are the whole sum. Assumes nothing.
 use Rattle.std.proofs.Common.{arith, rules}
 use Rattle.ground.specs.SearchLaws.{sum_step, sum_end}
-use Rattle.limits.specs.LimitsLaws.{most_samples_lem}
+use Rattle.limits.proofs.LimitsLaws.{most_samples_lem}
 use Rattle.search.specs.Search.{amp_at}
 use Rattle.timing.specs.Integral.{integral}
 use Rattle.finder.proofs.integral_of.Goals as goal

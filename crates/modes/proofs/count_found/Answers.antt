@@ -1,6 +1,6 @@
 -- `modes::count_found` meets its contract: the count of what the finder gives.
 use Rattle.std.proofs.Common.{arith, length}
-use Rattle.limits.specs.LimitsLaws.{most_raw_lem, most_pulse_lem}
+use Rattle.limits.proofs.LimitsLaws.{most_raw_lem, most_pulse_lem}
 use Rattle.pairs.specs.PairsLaws.{run_most}
 use Rattle.finder.specs.FindLaws.{searched}
 use Rattle.modes.specs.Channel.{Common}

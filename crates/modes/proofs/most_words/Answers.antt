@@ -2,7 +2,7 @@
 use Rattle.std.proofs.Common.{◌+◌, ◌*◌, ◌≤◌, ◌≡◌, arith, le-leb}
 use borrow.Author.Tests.{lt-leb}
 use Rattle.limits.specs.Limits.{most_samples}
-use Rattle.limits.specs.LimitsLaws.{most_samples_lem, most_channel_lem}
+use Rattle.limits.proofs.LimitsLaws.{most_samples_lem, most_channel_lem}
 use Rattle.modes.specs.Channel.{mode_most}
 use Rattle.modes.specs.BoundLaws.{mode_most_lem}
 use Rattle.modes.proofs.most_words.Goals as goal

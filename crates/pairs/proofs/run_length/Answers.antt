@@ -1,6 +1,6 @@
 -- `pairs::run_length` meets its contract. Assumes nothing.
 use Rattle.std.proofs.Common.{arith}
-use Rattle.limits.specs.LimitsLaws.{pairs_is}
+use Rattle.limits.proofs.LimitsLaws.{pairs_is}
 use Rattle.pairs.proofs.run_length.Goals as goal
 
 pub returns : goal.returns

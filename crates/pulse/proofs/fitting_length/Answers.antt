@@ -1,6 +1,6 @@
 -- `pulse::fitting_length` meets its contract.
 use Rattle.std.proofs.Common.{rules}
-use Rattle.limits.specs.LimitsLaws.{most_samples_lem}
+use Rattle.limits.proofs.LimitsLaws.{most_samples_lem}
 use Rattle.pulse.specs.Pulse.{pulse_length}
 use Rattle.pulse.proofs.fitting_length.Goals as goal
 

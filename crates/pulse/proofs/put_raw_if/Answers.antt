@@ -1,7 +1,7 @@
 -- `pulse::put_raw_if` meets its contract: the header and the pairs of the part that is the data set, or nothing.
 use Rattle.std.proofs.Common.{refl, ◌∷◌, rules}
 use Rattle.ground.specs.WritingLaws.{written_nil}
-use Rattle.limits.specs.LimitsLaws.{most_samples_lem}
+use Rattle.limits.proofs.LimitsLaws.{most_samples_lem}
 use Rattle.pairs.specs.Pairs.{pair_items}
 use Rattle.items.specs.declared.Item.TheVariants as I
 use Rattle.items.specs.ItemsLaws.{put_written}

@@ -1,7 +1,7 @@
 -- `pulse::set_length` meets its contract: half of a number and a few words more is a number.
 use Rattle.std.proofs.Common.{ℕ, ◌+◌, ◌/◌, ◌≤◌, Bool, true, false, cond, arith}
 use Rattle.limits.specs.Limits.{pairs_of}
-use Rattle.limits.specs.LimitsLaws.{pairs_is}
+use Rattle.limits.proofs.LimitsLaws.{pairs_is}
 use Rattle.pulse.specs.Pulse.{set_length}
 use Rattle.pulse.proofs.set_length.Goals as goal
 

@@ -1,5 +1,5 @@
 -- `rawsamples::put_pair` meets its contract: the first sample, then the second.
-use Rattle.rawsamples.specs.RawSamplesLaws.{first_small, second_small, both_put}
+use Rattle.rawsamples.proofs.RawSamplesLaws.{first_small, second_small, both_put}
 use Rattle.rawsamples.proofs.put_pair.Goals as goal
 
 pub put_sample-second-requires : goal.put_sample-second-requires

@@ -1,6 +1,6 @@
 -- `rawsamples::put_pairs` meets its contract: the array with the samples that are left is the array asked for.
 use Rattle.std.proofs.Common.{refl, sym, ◌∙◌, rules, arith}
-use Rattle.rawsamples.specs.RawSamplesLaws.{pairs_turn, pairs_done}
+use Rattle.rawsamples.proofs.RawSamplesLaws.{pairs_turn, pairs_done}
 use Rattle.rawsamples.proofs.put_pairs.Goals as goal
 
 pub loop-i-preserved : goal.loop-i-preserved

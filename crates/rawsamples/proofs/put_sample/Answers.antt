@@ -1,7 +1,7 @@
 -- `rawsamples::put_sample` meets its contract: a sample that is marked, one that has room, one past the end, one at the farthest place.
 use Rattle.std.proofs.Common.{arith}
 use Rattle.written.specs.PageLaws.{put_here, put_past, put_stay}
-use Rattle.rawsamples.specs.RawSamplesLaws.{marked, unmarked}
+use Rattle.rawsamples.proofs.RawSamplesLaws.{marked, unmarked}
 use Rattle.rawsamples.proofs.put_sample.Goals as goal
 
 pub returns-then-flag-ne0 : goal.returns-then-flag-ne0

@@ -1,6 +1,6 @@
 -- `rawsamples::samples` meets its contract: the samples are counted in no array, then written where they fit.
 use Rattle.std.proofs.Common.{arith}
-use Rattle.rawsamples.specs.RawSamplesLaws.{no_room, room}
+use Rattle.rawsamples.proofs.RawSamplesLaws.{no_room, room}
 use Rattle.rawsamples.proofs.samples.Goals as goal
 
 pub returns-then-out-count : goal.returns-then-out-count

@@ -1,5 +1,5 @@
 -- `settings::in_range` meets its contract: the code's `&` is the definition's `all_of`. Assumes nothing.
-use Rattle.limits.specs.LimitsLaws.{most_samples_lem}
+use Rattle.limits.proofs.LimitsLaws.{most_samples_lem}
 use Rattle.settings.specs.Ranges.{ranges, settings_ok}
 use Rattle.settings.proofs.in_range.Goals as goal
 

@@ -2,7 +2,7 @@
 use Rattle.std.proofs.Common.{◌+◌, ◌/◌, refl, sym, ◌∙◌, arith}
 use Rattle.timing.specs.Time.{vmid}
 use Rattle.timing.specs.TimeLaws.{edge_is, edge_low, edge_none, edge_some}
-use Rattle.timing.specs.EdgeLaws.{Crosses, crosses_at}
+use Rattle.timing.proofs.EdgeLaws.{Crosses, crosses_at}
 use Rattle.timing.proofs.edge_time.Goals as goal
 use Rattle.timing.proofs.edge_time.Goals.{Else-n1-eq0}
 

@@ -1,7 +1,7 @@
 -- `timing::vmin_of` meets its contract. Assumes nothing.
 use Rattle.std.proofs.Common.{arith}
 use Rattle.timing.specs.Time.{vmin}
-use Rattle.timing.specs.EdgeLaws.{four}
+use Rattle.timing.proofs.EdgeLaws.{four}
 use Rattle.timing.proofs.vmin_of.Goals as goal
 
 pub returns : goal.returns

@@ -1,6 +1,6 @@
 -- `modes::count::pulses_length` meets its contract: what is counted and what is left are the whole.
 use Rattle.std.proofs.Common.{arith, zero-add}
-use Rattle.limits.specs.LimitsLaws.{most_pulse_lem}
+use Rattle.limits.proofs.LimitsLaws.{most_pulse_lem}
 use Rattle.modes.specs.InnerLaws.{place_in, count_turn, count_end}
 use Rattle.modes.specs.BoundLaws.{found_most}
 use Rattle.modes.proofs.count.pulses_length.Goals as goal

@@ -2,7 +2,7 @@
 use Rattle.std.proofs.Common.{rules}
 use Rattle.items.specs.Items.{word_of}
 use Rattle.pulse.specs.Pulse.{time_item}
-use Rattle.limits.specs.LimitsLaws.{most_samples_lem}
+use Rattle.limits.proofs.LimitsLaws.{most_samples_lem}
 use Rattle.pulse.proofs.measure.time_word.Goals as goal
 
 pub returns : goal.returns

@@ -1,7 +1,7 @@
 -- `scan::after::scan_after` meets its contract.
 use Rattle.framing.specs.Words.{trigger_time_of, scalers_of}
 use Rattle.raw.specs.Words.{pair_of, window_of}
-use Rattle.limits.specs.LimitsLaws.{most_pairs_lem}
+use Rattle.limits.proofs.LimitsLaws.{most_pairs_lem}
 use Rattle.scan.specs.After.{after}
 use Rattle.scan.proofs.after.scan_after.Goals as goal
 

@@ -1,6 +1,6 @@
 -- `state::ranges::words_ok` meets its contract. Assumes nothing.
 use Rattle.std.proofs.Common.{arith}
-use Rattle.limits.specs.LimitsLaws.{most_event_lem}
+use Rattle.limits.proofs.LimitsLaws.{most_event_lem}
 use Rattle.state.specs.State.{words_ok}
 use Rattle.state.specs.CodeLaws.{words_fit, head_le}
 use Rattle.state.proofs.ranges.words_ok.Goals as goal

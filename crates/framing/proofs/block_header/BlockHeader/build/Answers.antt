@@ -1,5 +1,5 @@
 -- `framing::block_header::BlockHeader::build` meets its contract: fields put in from the lowest up are packed.
-use Rattle.fields.specs.WordLaws.{stacked}
+use Rattle.fields.proofs.WordLaws.{stacked}
 use Rattle.framing.specs.Words.{block_header}
 use Rattle.framing.proofs.block_header.BlockHeader.build.Goals as goal
 

@@ -1,5 +1,5 @@
 -- `framing::empty::ModuleEmpty::build` meets its contract: fields put in from the lowest up are packed.
-use Rattle.fields.specs.WordLaws.{stacked}
+use Rattle.fields.proofs.WordLaws.{stacked}
 use Rattle.framing.specs.Words.{empty}
 use Rattle.framing.proofs.empty.ModuleEmpty.build.Goals as goal
 

@@ -1,5 +1,5 @@
 -- `framing::filler::Filler::build` meets its contract: fields put in from the lowest up are packed.
-use Rattle.fields.specs.WordLaws.{stacked}
+use Rattle.fields.proofs.WordLaws.{stacked}
 use Rattle.framing.specs.Words.{filler}
 use Rattle.framing.proofs.filler.Filler.build.Goals as goal
 

@@ -1,5 +1,5 @@
 -- `framing::parameters::Parameters::build` meets its contract: fields put in from the lowest up are packed.
-use Rattle.fields.specs.WordLaws.{stacked}
+use Rattle.fields.proofs.WordLaws.{stacked}
 use Rattle.framing.specs.Words.{parameters}
 use Rattle.framing.proofs.parameters.Parameters.build.Goals as goal
 

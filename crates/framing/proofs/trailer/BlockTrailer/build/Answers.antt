@@ -1,5 +1,5 @@
 -- `framing::trailer::BlockTrailer::build` meets its contract: fields put in from the lowest up are packed.
-use Rattle.fields.specs.WordLaws.{stacked}
+use Rattle.fields.proofs.WordLaws.{stacked}
 use Rattle.framing.specs.Words.{trailer}
 use Rattle.framing.proofs.trailer.BlockTrailer.build.Goals as goal
 

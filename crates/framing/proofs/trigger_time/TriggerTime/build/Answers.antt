@@ -1,5 +1,5 @@
 -- `framing::trigger_time::TriggerTime::build` meets its contract: fields put in from the lowest up are packed.
-use Rattle.fields.specs.WordLaws.{stacked}
+use Rattle.fields.proofs.WordLaws.{stacked}
 use Rattle.framing.specs.Words.{trigger_time}
 use Rattle.framing.proofs.trigger_time.TriggerTime.build.Goals as goal
 

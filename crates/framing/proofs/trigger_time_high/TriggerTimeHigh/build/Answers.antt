@@ -1,5 +1,5 @@
 -- `framing::trigger_time_high::TriggerTimeHigh::build` meets its contract: fields put in from the lowest up are packed.
-use Rattle.fields.specs.WordLaws.{stacked}
+use Rattle.fields.proofs.WordLaws.{stacked}
 use Rattle.framing.specs.Words.{trigger_time_high}
 use Rattle.framing.proofs.trigger_time_high.TriggerTimeHigh.build.Goals as goal
 

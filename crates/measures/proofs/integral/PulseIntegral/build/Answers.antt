@@ -1,5 +1,5 @@
 -- `measures::integral::PulseIntegral::build` meets its contract: fields put in from the lowest up are packed.
-use Rattle.fields.specs.WordLaws.{stacked}
+use Rattle.fields.proofs.WordLaws.{stacked}
 use Rattle.measures.specs.Words.{integral}
 use Rattle.measures.proofs.integral.PulseIntegral.build.Goals as goal
 

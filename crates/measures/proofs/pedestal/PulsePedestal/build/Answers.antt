@@ -1,5 +1,5 @@
 -- `measures::pedestal::PulsePedestal::build` meets its contract: fields put in from the lowest up are packed.
-use Rattle.fields.specs.WordLaws.{stacked}
+use Rattle.fields.proofs.WordLaws.{stacked}
 use Rattle.measures.specs.Words.{pedestal}
 use Rattle.measures.proofs.pedestal.PulsePedestal.build.Goals as goal
 

@@ -1,5 +1,5 @@
 -- `raw::pair::SamplePair::build` meets its contract: fields put in from the lowest up are packed.
-use Rattle.fields.specs.WordLaws.{stacked}
+use Rattle.fields.proofs.WordLaws.{stacked}
 use Rattle.raw.specs.Words.{pair}
 use Rattle.raw.proofs.pair.SamplePair.build.Goals as goal
 

@@ -1,5 +1,5 @@
 -- `raw::pulse_raw::PulseRaw::build` meets its contract: fields put in from the lowest up are packed.
-use Rattle.fields.specs.WordLaws.{stacked}
+use Rattle.fields.proofs.WordLaws.{stacked}
 use Rattle.raw.specs.Words.{pulse_raw}
 use Rattle.raw.proofs.pulse_raw.PulseRaw.build.Goals as goal
 

@@ -1,5 +1,5 @@
 -- `raw::window::WindowRaw::build` meets its contract: fields put in from the lowest up are packed.
-use Rattle.fields.specs.WordLaws.{stacked}
+use Rattle.fields.proofs.WordLaws.{stacked}
 use Rattle.raw.specs.Words.{window}
 use Rattle.raw.proofs.window.WindowRaw.build.Goals as goal
 

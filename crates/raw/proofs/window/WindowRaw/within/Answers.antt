@@ -1,5 +1,5 @@
 -- `raw::window::WindowRaw::within` meets its contract.
-use Rattle.limits.specs.LimitsLaws.{most_samples_lem}
+use Rattle.limits.proofs.LimitsLaws.{most_samples_lem}
 use Rattle.raw.specs.Words.{window_within}
 use Rattle.raw.proofs.window.WindowRaw.within.Goals as goal
 

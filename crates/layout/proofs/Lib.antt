@@ -1,0 +1,5 @@
+pub mod GrammarLaws
+pub mod ParseLaws
+pub mod EndsLaws
+pub mod WrongLaws
+pub mod ExactLaws

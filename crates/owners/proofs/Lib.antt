@@ -1,0 +1,4 @@
+pub mod AsideLaws
+pub mod OrderLaws
+pub mod OwnLaws
+pub mod AloneLaws
