@@ -9,7 +9,6 @@ use Rattle.fields.specs.Bytes.{words_of_bytes}
 use Rattle.fields.proofs.BytesLaws.{words_none, words_some, words_drop, words_le}
 use Rattle.scan.specs.After.{start_of}
 use Rattle.reader.specs.Reader.{Reading, read_from}
-use Rattle.reader.specs.ReaderLaws.{ended}
 use Rattle.reader.specs.RunLaws.{items_le}
 use Rattle.written.specs.Page.{Page, put}
 use Rattle.written.specs.PageLaws.{put_append}

@@ -1,12 +1,12 @@
 -- A text is put on no page first, and so counted; then in the buffer where it fits. Assumes nothing.
-use Rattle.std.specs.Prelude.{ℕ, ◌≤◌, ◌<◌, ◌≡◌, refl, Bool, true, false, cond, List, [], ◌∷◌, ◌++◌, length, drop, take}
+use Rattle.std.specs.Prelude.{ℕ, ◌≤◌, ◌<◌, ◌≡◌, Bool, true, false, cond, List, [], ◌++◌, length, drop, take}
 use Rattle.std.proofs.Common.{sym, ap, ◌∙◌, arith, length-append, length-take-le}
 use Rattle.ground.specs.ResultLaws.{one_result}
 use Rattle.written.specs.Page.{Page, farthest, put}
 use Rattle.written.specs.PageLaws.{all_fits, none_put, none_count, short, fitting}
 use Rattle.listing.specs.declared.Listed.{Listed}
 use Rattle.listing.specs.declared.Listed.TheVariants as L
-use Rattle.listing.specs.Says.{listed_number, listed_value, text_has_room, counted, TextSays, ListSays, LongSays, LengthSays}
+use Rattle.listing.specs.Says.{listed_number, listed_value, text_has_room, TextSays, ListSays, LongSays, LengthSays}
 
 -- where its length is known to fit, it is not counted
 pub room_sure : (all text : List ℕ) (r : ℕ) (text' : List ℕ) → length all ≤ length text → length text < farthest → ◌≡◌ {A = Page} (text', r) (put (text, 0) all) → LongSays all text (L.Text r) text'

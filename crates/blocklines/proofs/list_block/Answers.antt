@@ -1,12 +1,12 @@
 -- `blocklines::list_block` meets its contract: what is left of the block, put where the text stands, gives the block.
-use Rattle.std.proofs.Common.{◌-◌, ◌≤◌, ◌≡◌, refl, sym, ap, ◌∙◌, arith, length, drop, rules}
+use Rattle.std.proofs.Common.{refl, sym, ap, ◌∙◌, arith}
 use Rattle.scan.specs.declared.Scan.{Scan}
 use Rattle.scan.specs.After.{start_of}
 use Rattle.reader.specs.Reader.{read_from}
 use Rattle.fields.specs.Bytes.{words_of_bytes}
 use Rattle.glance.specs.QuickLaws.{known_took, known_other}
 use Rattle.blocklines.specs.TurnLaws.{turn_on, turn_last}
-use Rattle.blocklines.specs.BlockLaws.{read_end, Left, left_all, left_is, left_on, left_known, left_last, left_none}
+use Rattle.blocklines.specs.BlockLaws.{read_end, left_all, left_is, left_on, left_known, left_last, left_none}
 use Rattle.blocklines.proofs.list_block.Goals as goal
 
 pub loop-next-init : goal.loop-next-init

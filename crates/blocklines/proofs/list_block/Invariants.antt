@@ -1,12 +1,9 @@
 -- `blocklines::list_block` meets its contract: what is left of the block, put where the text stands, gives the block.
-use Rattle.std.proofs.Common.{◌-◌, ◌≤◌, ◌≡◌, refl, sym, ap, ◌∙◌, arith, length, drop, rules}
-use Rattle.scan.specs.declared.Scan.{Scan}
+use Rattle.std.proofs.Common.{◌-◌, ◌≤◌, ◌≡◌, length, drop}
 use Rattle.scan.specs.After.{start_of}
 use Rattle.reader.specs.Reader.{read_from}
 use Rattle.fields.specs.Bytes.{words_of_bytes}
-use Rattle.glance.specs.QuickLaws.{known_took, known_other}
-use Rattle.blocklines.specs.TurnLaws.{turn_on, turn_last}
-use Rattle.blocklines.specs.BlockLaws.{read_end, Left, left_all, left_is, left_on, left_known, left_last, left_none}
+use Rattle.blocklines.specs.BlockLaws.{Left}
 use Rattle.blocklines.proofs.list_block.Given as goal
 
 abbrev pub invariant-loop-next : goal.invariant-loop-next

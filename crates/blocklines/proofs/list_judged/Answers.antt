@@ -1,5 +1,5 @@
 -- `blocklines::list_judged` meets its contract: what the judgement gives.
-use Rattle.std.proofs.Common.{sym, ◌∙◌, rules}
+use Rattle.std.proofs.Common.{sym, ◌∙◌}
 use Rattle.blocklines.specs.Turn.{turn_of}
 use Rattle.blocklines.specs.TurnLaws.{turn_by, turn_took}
 use Rattle.blocklines.proofs.list_judged.Goals as goal

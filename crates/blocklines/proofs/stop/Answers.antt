@@ -1,5 +1,5 @@
 -- `blocklines::stop` meets its contract: the fillers' line, then a refusal or none.
-use Rattle.std.proofs.Common.{eq-eqb, ne_eqb, rules}
+use Rattle.std.proofs.Common.{eq-eqb, ne_eqb}
 use Rattle.blocklines.specs.BlockLaws.{stopped_whole, stopped_broken}
 use Rattle.blocklines.proofs.stop.Goals as goal
 

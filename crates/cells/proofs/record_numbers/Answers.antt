@@ -1,5 +1,4 @@
 -- `cells::record_numbers` meets its contract.
-use Rattle.std.proofs.Common.{rules}
 use Rattle.cells.proofs.record_numbers.Goals as goal
 
 pub returns-in-Block : goal.returns-in-Block

@@ -1,5 +1,5 @@
 -- `listing::list` meets its contract: no text of the lister is so long that its length is not counted whole.
-use Rattle.std.proofs.Common.{arith, rules}
+use Rattle.std.proofs.Common.{arith}
 use Rattle.listing.specs.Listing.{listing_of}
 use Rattle.listing.specs.RoomLaws.{all_counted}
 use Rattle.listing.specs.MostLaws.{listing_le}

@@ -1,10 +1,6 @@
 -- `listing::list_blocks` meets its contract: the blocks that are left, put where the text stands, give them all.
-use Rattle.std.proofs.Common.{◌-◌, ◌≤◌, ◌≡◌, refl, sym, ◌∙◌, arith, rules, length, drop}
-use Rattle.fields.specs.Bytes.{words_of_bytes}
-use Rattle.written.specs.Page.{put}
-use Rattle.written.specs.Line.{text_of}
+use Rattle.std.proofs.Common.{refl, sym, ◌∙◌, arith}
 use Rattle.written.specs.LineLaws.{say_none}
-use Rattle.listing.specs.Listing.{lines_from}
 use Rattle.listing.specs.BlockLaws.{blocks_none, block_within, block_some, block_next, block_last}
 use Rattle.listing.proofs.list_blocks.Goals as goal
 

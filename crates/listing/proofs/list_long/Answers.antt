@@ -1,5 +1,4 @@
 -- `listing::list_long` meets its contract.
-use Rattle.std.proofs.Common.{rules}
 use Rattle.listing.specs.Listing.{long_listing_of}
 use Rattle.listing.proofs.list_long.Goals as goal
 

@@ -1,5 +1,5 @@
 -- `listing::list_unless` meets its contract: every text has room; or it is counted on no page, then written where it fits.
-use Rattle.std.proofs.Common.{arith, rules}
+use Rattle.std.proofs.Common.{arith}
 use Rattle.listing.specs.MostLaws.{unless_le}
 use Rattle.listing.specs.RoomLaws.{room_sure, no_room, room}
 use Rattle.listing.proofs.list_unless.Goals as goal

@@ -1,5 +1,4 @@
 -- `listing::put_listing` meets its contract: refusal 16 alone, or all blocks.
-use Rattle.std.proofs.Common.{rules}
 use Rattle.written.specs.LineLaws.{say_one}
 use Rattle.listing.specs.Listing.{lines_unless}
 use Rattle.listing.proofs.put_listing.Goals as goal

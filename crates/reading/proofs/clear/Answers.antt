@@ -1,5 +1,5 @@
 -- `reading::clear` meets its contract.
-use Rattle.std.proofs.Common.{arith, rules}
+use Rattle.std.proofs.Common.{arith}
 use Rattle.reading.specs.ReadingLaws.{fill_by}
 use Rattle.reading.proofs.clear.Goals as goal
 

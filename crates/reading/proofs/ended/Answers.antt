@@ -1,5 +1,5 @@
 -- `reading::ended` meets its contract.
-use Rattle.std.proofs.Common.{arith, rules}
+use Rattle.std.proofs.Common.{arith}
 use Rattle.reading.specs.ReadingLaws.{room_short, room_long, fill_short, fill_by}
 use Rattle.reading.proofs.ended.Goals as goal
 

@@ -1,6 +1,5 @@
 -- `reading::next` meets its contract.
-use Rattle.std.proofs.Common.{sym, ◌∙◌, rules}
-use borrow.Author.Tests.{not-true, not-false}
+use Rattle.std.proofs.Common.{sym, ◌∙◌}
 use Rattle.reading.specs.ReadingLaws.{next_unscanned, next_told}
 use Rattle.reading.proofs.next.Goals as goal
 

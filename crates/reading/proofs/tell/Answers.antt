@@ -1,5 +1,5 @@
 -- `reading::tell` meets its contract.
-use Rattle.std.proofs.Common.{refl, rules}
+use Rattle.std.proofs.Common.{refl}
 use Rattle.reading.proofs.tell.Goals as goal
 
 pub returns-in-Took : goal.returns-in-Took

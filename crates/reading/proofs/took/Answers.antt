@@ -1,5 +1,5 @@
 -- `reading::took` meets its contract.
-use Rattle.std.proofs.Common.{arith, rules}
+use Rattle.std.proofs.Common.{arith}
 use Rattle.reading.specs.ReadingLaws.{took_short, took_long}
 use Rattle.reading.proofs.took.Goals as goal
 
