@@ -2,7 +2,7 @@
 -- learns from the function's own `ensures` (`Reads.Learnt`, of the arguments, the answer `r`, and the arguments as the call leaves them). Assumes nothing.
 use Rattle.std.specs.Prelude.{ℕ, ◌≡◌, Bool, true, false, List}
 use contract.Lifetimes.{Lfts}
-use Rattle.std.specs.Borrow.{Bor}
+use Rattle.std.specs.Borrow.{Bor, MutBor}
 use Rattle.settings.specs.declared.Settings.{Settings}
 use Rattle.find.proofs as find
 use Rattle.find.specs.declared.FindAnswer.{FindAnswer}
@@ -52,13 +52,17 @@ use Rattle.listing.specs.Says.{ListSays, LongSays, LengthSays}
 abbrev pub Reference : Type 0
 Reference = Bor (List ℕ)
 
+-- the same, where the call may write
+abbrev pub Lent : Type 0
+Lent = MutBor (List ℕ)
+
 -- ---- the calls
 
 pub set_up_tied : (settings : Settings) (r : Answer)
     → writer.set_up.Reads.Learnt tt (settings, tt) r (settings, tt) → SetUpSays settings r
 set_up_tied settings r p = p
 
-pub open_block_tied : (κs : Lfts 1) (state : State) (words words' : Reference) (number events : ℕ) (r : Answer)
+pub open_block_tied : (κs : Lfts 1) (state : State) (words words' : Lent) (number events : ℕ) (r : Answer)
     → writer.open_block.Reads.Learnt κs (state, (words, (number, (events, tt)))) r (state, (words', (number, (events, tt)))) → OpenBlockSays state words.now number events r words'.now
 open_block_tied κs state words words' number events r p = p
 
@@ -66,15 +70,15 @@ pub open_event_tied : (state : State) (number time : ℕ) (r : Answer)
     → writer.open_event.Reads.Learnt tt (state, (number, (time, tt))) r (state, (number, (time, tt))) → OpenEventSays state number time r
 open_event_tied state number time r p = p
 
-pub post_tied : (κs : Lfts 2) (state : State) (store store' : Reference) (channel : ℕ) (window : Reference) (r : Answer)
+pub post_tied : (κs : Lfts 2) (state : State) (store store' : Lent) (channel : ℕ) (window : Reference) (r : Answer)
     → writer.post.Reads.Learnt κs (state, (store, (channel, (window, tt)))) r (state, (store', (channel, (window, tt)))) → PostSays state store.now channel window.now r store'.now
 post_tied κs state store store' channel window r p = p
 
-pub close_tied : (κs : Lfts 2) (state : State) (store words words' : Reference) (asked : Bool) (r : Answer)
+pub close_tied : (κs : Lfts 2) (state : State) (store : Reference) (words words' : Lent) (asked : Bool) (r : Answer)
     → closing.close.Reads.Learnt κs (state, (store, (words, (asked, tt)))) r (state, (store, (words', (asked, tt)))) → CloseSays state store.now words.now asked r words'.now
 close_tied κs state store words words' asked r p = p
 
-pub finish_tied : (κs : Lfts 1) (state : State) (words words' : Reference) (r : Finished)
+pub finish_tied : (κs : Lfts 1) (state : State) (words words' : Lent) (r : Finished)
     → writer.finish.Reads.Learnt κs (state, (words, tt)) r (state, (words', tt)) → FinishSays state words.now r words'.now
 finish_tied κs state words words' r p = p
 
@@ -94,50 +98,50 @@ find_tied κs settings channel window r p = p
 
 -- ---- the same from C
 
-pub fadc250_set_up_tied : (κs : Lfts 2) (settings state state' : Reference) (r : ℕ)
+pub fadc250_set_up_tied : (κs : Lfts 2) (settings : Reference) (state state' : Lent) (r : ℕ)
     → host.fadc250_set_up.Reads.Learnt κs (settings, (state, tt)) r (settings, (state', tt)) → SetUpFace settings.now state.now r state'.now
 fadc250_set_up_tied κs settings state state' r p = p
 
-pub fadc250_open_block_tied : (κs : Lfts 2) (state state' words words' : Reference) (number events r : ℕ)
+pub fadc250_open_block_tied : (κs : Lfts 2) (state state' words words' : Lent) (number events r : ℕ)
     → host.fadc250_open_block.Reads.Learnt κs (state, (words, (number, (events, tt)))) r (state', (words', (number, (events, tt))))
     → OpenBlockFace state.now words.now number events r state'.now words'.now
 fadc250_open_block_tied κs state state' words words' number events r p = p
 
-pub fadc250_open_event_tied : (κs : Lfts 1) (state state' : Reference) (number time r : ℕ)
+pub fadc250_open_event_tied : (κs : Lfts 1) (state state' : Lent) (number time r : ℕ)
     → host.fadc250_open_event.Reads.Learnt κs (state, (number, (time, tt))) r (state', (number, (time, tt))) → OpenEventFace state.now number time r state'.now
 fadc250_open_event_tied κs state state' number time r p = p
 
-pub fadc250_post_tied : (κs : Lfts 3) (state state' store store' : Reference) (channel : ℕ) (window : Reference) (r : ℕ)
+pub fadc250_post_tied : (κs : Lfts 3) (state state' store store' : Lent) (channel : ℕ) (window : Reference) (r : ℕ)
     → host.fadc250_post.Reads.Learnt κs (state, (store, (channel, (window, tt)))) r (state', (store', (channel, (window, tt))))
     → PostFace state.now store.now channel window.now r state'.now store'.now
 fadc250_post_tied κs state state' store store' channel window r p = p
 
-pub fadc250_close_tied : (κs : Lfts 3) (state state' store words words' : Reference) (r : ℕ)
+pub fadc250_close_tied : (κs : Lfts 3) (state state' : Lent) (store : Reference) (words words' : Lent) (r : ℕ)
     → host.fadc250_close.Reads.Learnt κs (state, (store, (words, tt))) r (state', (store, (words', tt))) → CloseFace state.now store.now words.now false r state'.now words'.now
 fadc250_close_tied κs state state' store words words' r p = p
 
-pub fadc250_close_with_scalers_tied : (κs : Lfts 3) (state state' store words words' : Reference) (r : ℕ)
+pub fadc250_close_with_scalers_tied : (κs : Lfts 3) (state state' : Lent) (store : Reference) (words words' : Lent) (r : ℕ)
     → host.fadc250_close_with_scalers.Reads.Learnt κs (state, (store, (words, tt))) r (state', (store, (words', tt)))
     → CloseFace state.now store.now words.now true r state'.now words'.now
 fadc250_close_with_scalers_tied κs state state' store words words' r p = p
 
-pub fadc250_finish_tied : (κs : Lfts 2) (state state' words words' : Reference) (r : ℕ)
+pub fadc250_finish_tied : (κs : Lfts 2) (state state' words words' : Lent) (r : ℕ)
     → host.fadc250_finish.Reads.Learnt κs (state, (words, tt)) r (state', (words', tt)) → FinishFace state.now words.now r state'.now words'.now
 fadc250_finish_tied κs state state' words words' r p = p
 
-pub fadc250_count_tied : (κs : Lfts 2) (state state' frames : Reference) (r : ℕ)
+pub fadc250_count_tied : (κs : Lfts 2) (state state' : Lent) (frames : Reference) (r : ℕ)
     → hostcount.fadc250_count.Reads.Learnt κs (state, (frames, tt)) r (state', (frames, tt)) → CountFace state.now frames.now r state'.now
 fadc250_count_tied κs state state' frames r p = p
 
-pub fadc250_latch_tied : (κs : Lfts 1) (state state' : Reference) (r : ℕ)
+pub fadc250_latch_tied : (κs : Lfts 1) (state state' : Lent) (r : ℕ)
     → hostcount.fadc250_latch.Reads.Learnt κs (state, tt) r (state', tt) → LatchFace state.now r state'.now
 fadc250_latch_tied κs state state' r p = p
 
-pub fadc250_reset_tied : (κs : Lfts 1) (state state' : Reference) (r : ℕ)
+pub fadc250_reset_tied : (κs : Lfts 1) (state state' : Lent) (r : ℕ)
     → hostcount.fadc250_reset.Reads.Learnt κs (state, tt) r (state', tt) → ResetFace state.now r state'.now
 fadc250_reset_tied κs state state' r p = p
 
-pub fadc250_find_tied : (κs : Lfts 3) (settings : Reference) (channel : ℕ) (window out out' : Reference) (r : ℕ)
+pub fadc250_find_tied : (κs : Lfts 3) (settings : Reference) (channel : ℕ) (window : Reference) (out out' : Lent) (r : ℕ)
     → hostfind.fadc250_find.Reads.Learnt κs (settings, (channel, (window, (out, tt)))) r (settings, (channel, (window, (out', tt))))
     → FindFace settings.now channel window.now out.now r out'.now
 fadc250_find_tied κs settings channel window out out' r p = p
@@ -166,27 +170,27 @@ next_tied κs words scan r p = p
 pub part_tied : (κs : Lfts 1) (words : Reference) (p : Pairs) (r : Reference) → rawitems.part.Reads.Learnt κs (words, (p, tt)) r (words, (p, tt)) → r.now ≡ part_of words.now p
 part_tied κs words p r e = e
 
-pub list_tied : (κs : Lfts 2) (bytes text text' : Reference) (r : Listed) → listing.list.Reads.Learnt κs (bytes, (text, tt)) r (bytes, (text', tt)) → ListSays (listing_of bytes.now) text.now r text'.now
+pub list_tied : (κs : Lfts 2) (bytes : Reference) (text text' : Lent) (r : Listed) → listing.list.Reads.Learnt κs (bytes, (text, tt)) r (bytes, (text', tt)) → ListSays (listing_of bytes.now) text.now r text'.now
 list_tied κs bytes text text' r p = p
 
-pub list_long_tied : (κs : Lfts 2) (bytes text text' : Reference) (r : Listed)
+pub list_long_tied : (κs : Lfts 2) (bytes : Reference) (text text' : Lent) (r : Listed)
     → listing.list_long.Reads.Learnt κs (bytes, (text, tt)) r (bytes, (text', tt)) → LongSays (long_listing_of bytes.now) text.now r text'.now
 list_long_tied κs bytes text text' r p = p
 
-pub fadc250_list_tied : (κs : Lfts 2) (bytes text text' : Reference) (r : ℕ)
+pub fadc250_list_tied : (κs : Lfts 2) (bytes : Reference) (text text' : Lent) (r : ℕ)
     → hostread.fadc250_list.Reads.Learnt κs (bytes, (text, tt)) r (bytes, (text', tt)) → LengthSays (long_listing_of bytes.now) text.now r text'.now
 fadc250_list_tied κs bytes text text' r p = p
 
-pub samples_tied : (κs : Lfts 2) (words : Reference) (place pairs : ℕ) (out out' : Reference) (r : ℕ)
+pub samples_tied : (κs : Lfts 2) (words : Reference) (place pairs : ℕ) (out out' : Lent) (r : ℕ)
     → rawsamples.samples.Reads.Learnt κs (words, (place, (pairs, (out, tt)))) r (words, (place, (pairs, (out', tt))))
     → SamplesSay (samples_of (part_of words.now (record { place = place; count = pairs }))) out.now r out'.now
 samples_tied κs words place pairs out out' r p = p
 
-pub fadc250_samples_tied : (κs : Lfts 2) (words : Reference) (place pairs : ℕ) (out out' : Reference) (r : ℕ)
+pub fadc250_samples_tied : (κs : Lfts 2) (words : Reference) (place pairs : ℕ) (out out' : Lent) (r : ℕ)
     → hostread.fadc250_samples.Reads.Learnt κs (words, (place, (pairs, (out, tt)))) r (words, (place, (pairs, (out', tt))))
     → SamplesSay (samples_of (part_of words.now (record { place = place; count = pairs }))) out.now r out'.now
 fadc250_samples_tied κs words place pairs out out' r p = p
 
-pub fadc250_next_tied : (κs : Lfts 3) (scan scan' words out out' : Reference) (r : ℕ)
+pub fadc250_next_tied : (κs : Lfts 3) (scan scan' : Lent) (words : Reference) (out out' : Lent) (r : ℕ)
     → hostread.fadc250_next.Reads.Learnt κs (scan, (words, (out, tt))) r (scan', (words, (out', tt))) → NextFace scan.now words.now out.now r scan'.now out'.now
 fadc250_next_tied κs scan scan' words out out' r p = p
