@@ -1,12 +1,11 @@
 -- The lister's text without its limit: within the limit it is the lister's, and blocks follow each other. Assumes nothing.
-use Rattle.std.specs.Prelude.{ℕ, zero, suc, ◌+◌, ◌-◌, ◌*◌, ◌%◌, ◌≤◌, ◌≡◌, refl, Bool, true, false, cond, ◌||◌, List, [], ◌∷◌, ◌++◌, ltb, length, take, drop}
+use Rattle.std.specs.Prelude.{ℕ, zero, suc, ◌-◌, ◌*◌, ◌%◌, ◌≤◌, ◌≡◌, refl, Bool, true, false, ◌||◌, List, [], ◌∷◌, ◌++◌, length, take}
 use Rattle.std.proofs.Common.{sym, ap, ap₂, ◌∙◌, append-nil, arith, eq-eqb, le-ltb}
 use Rattle.fields.specs.Bytes.{bytes_of, word_of_bytes, words_of_bytes}
 use Rattle.items.specs.declared.Item.{Item}
 use Rattle.reader.specs.Reader.{Whole, Reading}
 use Rattle.written.specs.Line.{Line, text_of}
 use Rattle.written.specs.LineLaws.{text_append}
-use Rattle.lines.specs.Lines.{refused_line}
 use Rattle.blocklines.specs.BlockLines.{block_lines}
 use Rattle.listing.specs.Listing.{block_then, lines_from, cut_wrong, lines_unless, listing_of, long_listing_of}
 use Rattle.layout.specs.NothingLost.{AllWords}

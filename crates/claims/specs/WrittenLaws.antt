@@ -32,7 +32,7 @@ use Rattle.rows.specs.RowsLaws.{row_end}
 use Rattle.tail.specs.Tail.{word_items, scaler_items, tail_items}
 use Rattle.places.specs.Places.{most32}
 use Rattle.layout.specs.PassLaws.{both}
-use Rattle.layout.specs.Grammar.{Piece, window, raw, integral, time, pedestal, Clock, no_clock, clock27, clock48, no_scalers, scalers, each_pair, piece_of, pieces_of, clock_of, each_scaler, tail_of, event_of, Each, BothValid, OddEnd, full, short, WindowPairs, RawPairs, PieceOk, ClockOk, TailOk, EventOk, Widths}
+use Rattle.layout.specs.Grammar.{Piece, window, raw, integral, time, pedestal, no_clock, clock27, clock48, no_scalers, scalers, each_pair, piece_of, pieces_of, clock_of, each_scaler, tail_of, event_of, Each, BothValid, OddEnd, full, short, WindowPairs, RawPairs, PieceOk, ClockOk, TailOk, EventOk, Widths}
 
 -- the records of a tree that is as asked, every field within its bits
 pub record TreeOf {A : Type 0} (of : A → List Item) (ok : A → Type 0) (xs : List Item) : Type 0 where

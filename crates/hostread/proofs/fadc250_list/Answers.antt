@@ -1,5 +1,4 @@
 -- `hostread::fadc250_list` meets its contract: both answers of the lister tell the text's length.
-use Rattle.std.proofs.Common.{rules}
 use Rattle.listing.specs.RoomLaws.{length_told, length_needed}
 use Rattle.hostread.proofs.fadc250_list.Goals as goal
 
