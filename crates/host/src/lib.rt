@@ -1,4 +1,4 @@
-// What C links to write: the calls over numbers that the host lends. The numbers are loaded, the call is made, and an accepted
+// What C calls to write: the calls over numbers that the host lends. The numbers are loaded, the call is made, and an accepted
 // one stores what it changed. Numbers that are no state are loaded as what stands for none, which the call refuses with 10.
 #![tactic(auto)]
 

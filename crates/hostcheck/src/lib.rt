@@ -1,5 +1,4 @@
-// What C links to check: a block of bytes. It is an object of its own, so that its step over a word has one caller and is
-// compiled in its place.
+// What C calls to check: a block of bytes. `hostcheck_c` is what it links.
 #![tactic(auto)]
 
 ghost use Rattle.std.specs.Prelude.{◌≡◌};

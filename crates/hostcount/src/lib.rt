@@ -1,4 +1,4 @@
-// What C links to count: frames, latch and reset over a state's numbers that the host lends. An accepted call stores what is
+// What C calls to count: frames, latch and reset over a state's numbers that the host lends. An accepted call stores what is
 // counted and nothing else; numbers that are no state are loaded as what stands for none, which the call refuses with 10.
 #![tactic(auto)]
 

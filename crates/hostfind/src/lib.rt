@@ -1,4 +1,4 @@
-// What C links to find pulses: those of one window, as numbers that the host lends.
+// What C calls to find pulses: those of one window, as numbers that the host lends.
 #![tactic(auto)]
 
 ghost use Rattle.std.specs.Prelude.{◌≡◌, ◌<◌, ◌≤◌, length};

@@ -1,6 +1,5 @@
-// What C links to read on in a block: the next record, the samples of a raw item, the lister's text. It is a crate, and an
-// object of the archive, of its own, so that the check's loop in `host` stays the one place that steps over words there:
-// the compiler then builds the step into it, which is worth three times its speed.
+// What C calls to read on in a block: the next record, the samples of a raw item, the lister's text. `hostread_c` is what it
+// links.
 #![tactic(auto)]
 
 ghost use Rattle.rawitems.specs.Pairs.{part_of};

@@ -4,6 +4,7 @@
 ghost use Rattle.lister.specs.Within.{Within};
 
 use listing::{LONGEST, Listed};
+use std::fmt::InlineText;
 use std::io;
 use std::io::Read;
 
@@ -37,14 +38,14 @@ fn words(text: &str) -> &str {
     }
 }
 
-// Says what failed, and why in the system's words.
-fn fail(rt: &(impl Eprint + Alloc), what: &str, error: io::Error) -> io::Result<()> {
-    let text = format!(in rt.alloc(); "{error}")?;
+// Says what failed, and why in the system's words, which are short.
+fn fail(rt: &impl Eprint, what: &str, error: io::Error) -> io::Result<()> {
+    let text = InlineText::<256>::of(error);
     let why = words(text.as_str());
     eprintln!(rt; "lister: {what}: {why}")
 }
 
-fn write_text(rt: &(impl Print + Eprint + Alloc), text: &[u8]) -> io::Result<()> {
+fn write_text(rt: &(impl Print + Eprint), text: &[u8]) -> io::Result<()> {
     match rt.write_all(text) {
         Ok(()) => Ok(()),
         Err(error) => fail(rt, "the text could not be written", error),
@@ -52,7 +53,7 @@ fn write_text(rt: &(impl Print + Eprint + Alloc), text: &[u8]) -> io::Result<()>
 }
 
 // Writes the text of the bytes. The buffer has room for the longest.
-fn print(rt: &(impl Print + Eprint + Alloc), bytes: &[u8]) -> io::Result<()> {
+fn print(rt: &(impl Print + Eprint), bytes: &[u8]) -> io::Result<()> {
     let mut text = [0u8; 376854];
     match listing::list(bytes, &mut text) {
         Listed::Text(length) => write_text(rt, &text[..length]),
