@@ -9,6 +9,8 @@ LIBDIR = $(PREFIX)/lib
 INCLUDEDIR = $(PREFIX)/include
 MANDIR = $(PREFIX)/share/man
 ARCHIVE = target/libfadc250.a
+# Any x86-64 runs what is built; rt's own choice is a later processor.
+CPU = --cpu x86-64
 VERSION = $(shell sed -n 's/^.define FADC250_VERSION "\(.*\)"/\1/p' include/fadc250.h)
 # Only under its major version, so that -lfadc250 links the archive. Python's ctypes loads this one.
 SHARED = libfadc250.so.$(firstword $(subst ., ,$(VERSION)))
@@ -21,7 +23,7 @@ all: $(ARCHIVE)
 
 $(ARCHIVE): $(SOURCES)
 	@echo "proving the library and all that it leans on, then building it: some minutes the first time"
-	for crate in $(EXPORTING); do (cd crates/$$crate && ../../tools/here rt lib) || exit 1; done
+	for crate in $(EXPORTING); do (cd crates/$$crate && ../../tools/here rt lib $(CPU)) || exit 1; done
 	mkdir -p target
 	cd target && for crate in $(EXPORTING); do ar x ../crates/$$crate/out/lib$$crate.a || exit 1; done
 	rm -f $@
@@ -29,7 +31,7 @@ $(ARCHIVE): $(SOURCES)
 
 # rt builds a program to run it: here on no input, for which it prints nothing.
 target/bin/lister: $(SOURCES)
-	cd crates/lister && rt run </dev/null
+	cd crates/lister && rt run $(CPU) </dev/null
 	mkdir -p $(@D)
 	cp crates/lister/out/lister $@
 
