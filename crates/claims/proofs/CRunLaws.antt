@@ -37,7 +37,7 @@ use Rattle.claims.specs.Bytes.{bytes_of_words}
 use Rattle.claims.proofs.CheckLaws.{run_checked}
 use Rattle.claims.specs.FromC.{Call, CRun, IsRun, CPostRun, CEventRun, event_settings, c_closed_words, c_words_for, CAlike}
 use Rattle.claims.specs.FromC as C
-use Rattle.claims.proofs.FromCLaws.{over, below, open_block_call, open_event_call, post_call, aside_call, close_call, finish_call}
+use Rattle.claims.specs.FromCLaws.{over, below, open_block_call, open_event_call, post_call, aside_call, close_call, finish_call}
 
 -- ---- a run
 

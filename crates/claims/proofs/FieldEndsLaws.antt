@@ -9,7 +9,7 @@ use Rattle.finder.specs.declared.Pulse.{Pulse}
 use Rattle.finder.specs.Find.{pulses_from, no_pulse}
 use Rattle.finder.specs.RangeLaws.{PulseFits, fits_at, pulses_fit, pulses_count}
 use Rattle.find.specs.Call.{find_number, channel_pulses}
-use Rattle.find.proofs.CallLaws.{Accepted, accepted}
+use Rattle.find.specs.CallLaws.{Accepted, accepted}
 use Rattle.measures.specs.declared.integral.PulseIntegral.{PulseIntegral}
 use Rattle.measures.specs.declared.pedestal.PulsePedestal.{PulsePedestal}
 use Rattle.measures.specs.declared.time.PulseTime.{PulseTime}

@@ -3,11 +3,9 @@ pub mod CRunLaws
 pub mod CheckLaws
 pub mod FieldEndsLaws
 pub mod FollowedLaws
-pub mod FromCLaws
 pub mod LongLaws
 pub mod ReadFromCLaws
 pub mod ReadsLaws
 pub mod RoundFromCLaws
 pub mod RunLaws
 pub mod SamplesLaws
-pub mod WrongCallsLaws

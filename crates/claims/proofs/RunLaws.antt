@@ -41,8 +41,8 @@ use Rattle.layout.proofs.ParseLaws.{Parsed}
 use Rattle.numbers.specs.ScalersLaws.{Sized}
 use Rattle.numbers.specs.SizedLaws.{sized_triggered, sized_reset, sized_latched, sized_counted}
 use Rattle.owners.specs.Order.{Bench, Aside, frames, latch, reset, AsideSays}
-use Rattle.owners.proofs.AsideLaws.{zero_or, aside_number, scalers_after, beside, aside_after, same_ranges}
-use Rattle.owners.proofs.AsideLaws as A
+use Rattle.owners.specs.AsideLaws.{zero_or, aside_number, scalers_after, beside, aside_after, same_ranges}
+use Rattle.owners.specs.AsideLaws as A
 use Rattle.claims.specs.WrittenLaws.{TreeOf, each_append, event_made}
 use Rattle.claims.specs.Refused.{open_block_refused, close_refused, finish_refused}
 use Rattle.claims.specs.Run.{Run, opened, begun, posted, counted, closed, not_closed, not_opened, not_finished}

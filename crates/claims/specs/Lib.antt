@@ -1,6 +1,7 @@
 pub mod Refused
 pub mod Tables
 pub mod WrongCalls
+pub mod WrongCallsLaws
 pub mod Run
 pub mod WrittenLaws
 pub mod Reads
@@ -8,5 +9,6 @@ pub mod Samples
 pub mod Bytes
 pub mod Runs
 pub mod FromC
+pub mod FromCLaws
 pub mod ReadFromC
 pub mod FieldEnds

@@ -14,7 +14,7 @@ use Rattle.find.specs.declared.FindAnswer.{FindAnswer}
 use Rattle.finder.specs.Find.{pulse_at, pulses_from, packed}
 use Rattle.finder.specs.RangeLaws.{pulses_count, packed_back}
 use Rattle.find.specs.Call.{find_number, channel_pulses, found_pulses, rule_table, rules_of, found_rules, FindSays}
-use Rattle.find.proofs.CallLaws.{accepted, found_none, found_all}
+use Rattle.find.specs.CallLaws.{accepted, found_none, found_all}
 
 rule_first : (w : List ℕ) (t tc : ℕ) → rule_number (time_at w t tc).rule ≡ first_of (rule_table w t tc)
 unfolding time_at after_fall edge_time rule_table first_of

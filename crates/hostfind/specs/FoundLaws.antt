@@ -20,7 +20,7 @@ use Rattle.finder.specs.declared.Pulses.{Pulses}
 use Rattle.finder.specs.Find.{no_pulse, packed}
 use Rattle.finder.specs.RangeLaws.{PulseFits, EachFits, fits_at, pulses_fit, pulses_count, packed_count, packed_at}
 use Rattle.find.specs.Call.{find_table, find_number, channel_pulses, found_pulses, FindSays}
-use Rattle.find.proofs.CallLaws.{accepted, found_none, found_all}
+use Rattle.find.specs.CallLaws.{accepted, found_none, found_all}
 use Rattle.state.specs.State.{blank}
 use Rattle.places.specs.Places.{is_settings}
 use Rattle.numbers.specs.Numbers.{settings_from, settings_or_none}

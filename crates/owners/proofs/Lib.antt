@@ -1,4 +1,3 @@
-pub mod AsideLaws
 pub mod OrderLaws
 pub mod OwnLaws
 pub mod AloneLaws

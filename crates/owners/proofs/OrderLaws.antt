@@ -22,7 +22,7 @@ use Rattle.writer.specs.CallsLaws.{done, refused, row_fits}
 use Rattle.refusing.specs.TablesLaws.{PostAccepted, post_accepted}
 use Rattle.rows.specs.RowsLaws.{row_end}
 use Rattle.owners.specs.Order.{Bench, Post, Aside, PostRun, none, one, aside, Differ, Apart}
-use Rattle.owners.proofs.AsideLaws.{zero_or, aside_number, counted, scalers_after, beside, asides, aside_after, number_by, same_ranges, numbers_beside}
+use Rattle.owners.specs.AsideLaws.{zero_or, aside_number, counted, scalers_after, beside, asides, aside_after, number_by, same_ranges, numbers_beside}
 
 -- ---- posts by equations
 

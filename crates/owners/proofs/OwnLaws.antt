@@ -26,7 +26,7 @@ use Rattle.writer.specs.CallsLaws.{done, refused}
 use Rattle.refusing.specs.TablesLaws.{open_event_accepted}
 use Rattle.state.specs.StateLaws.{block_says}
 use Rattle.owners.specs.Order.{Bench, Post, Aside, frames, latch, reset, Differ, Apart}
-use Rattle.owners.proofs.AsideLaws.{zero_or, aside_number, counted, scalers_after, beside, asides}
+use Rattle.owners.specs.AsideLaws.{zero_or, aside_number, counted, scalers_after, beside, asides}
 use Rattle.owners.proofs.OrderLaws.{answer_of, after, posts, answered, either_way, marked, left, has, after_done, after_refused, fits, number_after}
 use Rattle.owners.specs.Own.{JustOpened, posted_window}
 

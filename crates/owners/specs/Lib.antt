@@ -1,2 +1,3 @@
+pub mod AsideLaws
 pub mod Order
 pub mod Own

@@ -61,7 +61,7 @@ use Rattle.finder.proofs as finder
 use Rattle.finder.specs.contracts as finder_contracts
 use Rattle.find.proofs as find
 use Rattle.find.specs.contracts as find_contracts
-use Rattle.find.proofs.CallLaws as F
+use Rattle.find.specs.CallLaws as F
 use Rattle.pairs.proofs as pairs
 use Rattle.pairs.specs.contracts as pairs_contracts
 use Rattle.pulse.proofs as pulse

@@ -2,7 +2,7 @@
 use Rattle.std.proofs.Common.{◌≡◌, ◌∙◌, true, arith, eqb-true, eqb, length}
 use Rattle.finder.specs.FindLaws.{range_searches, find_all_lem}
 use Rattle.find.specs.Call.{find_number, channel_pulses}
-use Rattle.find.proofs.CallLaws.{Accepted, accepted, found_none, found_all}
+use Rattle.find.specs.CallLaws.{Accepted, accepted, found_none, found_all}
 use Rattle.find.proofs.RulesLaws.{find_says}
 use Rattle.find.proofs.find.Goals as goal
 use Rattle.find.proofs.find.Goals.{Else-not-accepted}

@@ -34,7 +34,7 @@ use Rattle.host.specs.LoadsLaws.{set_up_loads, open_block_loads, open_event_load
 use Rattle.hostcount.specs.LoadsLaws.{count_loads, latch_loads, reset_loads}
 use Rattle.claims.specs.Tables.{aside_table, Exactly, exactly}
 use Rattle.owners.specs.Order.{Aside, frames, latch, reset, AsideSays}
-use Rattle.owners.proofs.AsideLaws.{zero_or}
+use Rattle.owners.specs.AsideLaws.{zero_or}
 use Rattle.claims.specs.FromC.{Call, SetUpCall, FinishCall, FindCall, AsideFace, TakenByNone}
 
 -- ---- "exactly when the table says"
