@@ -1,11 +1,12 @@
 -- The paper's number of each refusal: document 01, the tables of "One event, one store" and of "Reading"; 19 is document 02's. Assumes nothing.
 use Rattle.std.specs.Prelude.{ℕ, cond, eqb}
+use Rattle.std.specs.declared.result.Result.{Result}
+use Rattle.std.specs.declared.result.Result.TheVariants.{Ok, Err}
 use Rattle.refusals.specs.declared.Refusal.{Refusal}
-use Rattle.refusals.specs.declared.Refusal.TheVariants.{None, Setting, Store, Sample, Channel, Length, Posted, Turn, Number, Room, State, Missing, Unallowed, Bits, Count, Slot, Bytes, Frames}
+use Rattle.refusals.specs.declared.Refusal.TheVariants.{Setting, Store, Sample, Channel, Length, Posted, Turn, Number, Room, State, Missing, Unallowed, Bits, Count, Slot, Bytes, Frames}
 
--- "given exactly when": the words behind each number are the table's; 0 is no refusal
+-- "given exactly when": the words behind each number are the table's
 abbrev pub number_of : Refusal → ℕ
-number_of None = 0
 -- "a setting out of range"
 number_of Setting = 1
 -- "store shorter than 16 x NW"
@@ -40,6 +41,11 @@ number_of Slot = 15
 number_of Bytes = 16
 -- 02: "19 frame data not a multiple of sixteen"
 number_of Frames = 19
+
+-- what is told of a call: 0 is no refusal
+abbrev pub told : {A : Type 0} → Result A Refusal → ℕ
+told (Ok x) = 0
+told (Err r) = number_of r
 
 -- from C: an array is not as long as the header says, or holds what it cannot hold. It is no number of the paper's table
 abbrev pub bad_array : ℕ

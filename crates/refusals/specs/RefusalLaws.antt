@@ -1,36 +1,53 @@
--- No two refusals have one number; no later refusal. Assumes nothing.
-use Rattle.std.specs.Prelude.{ℕ, ◌≡◌, refl, Bool, true, false, cond, [], ◌∷◌, eqb, get_or}
+-- No two refusals have one number, and no refusal has that of none; no later refusal. Assumes nothing.
+use Rattle.std.specs.Prelude.{ℕ, ◌≡◌, refl, Bool, true, false, cond, List, [], ◌∷◌, eqb, get_or}
 use Rattle.std.proofs.Common.{sym, ap, ◌∙◌, eqb-true}
+use Rattle.std.specs.declared.result.Result.{Result}
+use Rattle.std.specs.declared.result.Result.TheVariants.{Ok, Err}
 use Rattle.refusals.specs.declared.Refusal.{Refusal}
-use Rattle.refusals.specs.declared.Refusal.TheVariants.{None, Setting, Store, Sample, Channel, Length, Posted, Turn, Number, Room, State, Missing, Unallowed, Bits, Count, Slot, Bytes, Frames}
-use Rattle.refusals.specs.Refusal.{number_of, or_else}
+use Rattle.refusals.specs.declared.Refusal.TheVariants.{Setting, Store, Sample, Channel, Length, Posted, Turn, Number, Room, State, Missing, Unallowed, Bits, Count, Slot, Bytes, Frames}
+use Rattle.refusals.specs.Refusal.{number_of, told, or_else}
 
--- the refusal of a number; 17 and 18 are none's
-abbrev refusal_at : ℕ → Refusal
-refusal_at n = get_or (None ∷ Setting ∷ Store ∷ Sample ∷ Channel ∷ Length ∷ Posted ∷ Turn ∷ Number ∷ Room ∷ State ∷ Missing ∷ Unallowed ∷ Bits ∷ Count ∷ Slot ∷ Bytes ∷ Frames ∷ Frames ∷ Frames ∷ []) n None
+-- what a call answers that gives nothing but whether it is refused
+abbrev pub Outcome : Type 0
+Outcome = Result Unit Refusal
 
-refusal_back : (r : Refusal) → refusal_at (number_of r) ≡ r
-refusal_back None = refl
-refusal_back Setting = refl
-refusal_back Store = refl
-refusal_back Sample = refl
-refusal_back Channel = refl
-refusal_back Length = refl
-refusal_back Posted = refl
-refusal_back Turn = refl
-refusal_back Number = refl
-refusal_back Room = refl
-refusal_back State = refl
-refusal_back Missing = refl
-refusal_back Unallowed = refl
-refusal_back Bits = refl
-refusal_back Count = refl
-refusal_back Slot = refl
-refusal_back Bytes = refl
-refusal_back Frames = refl
+-- in the order of their numbers; 17 and 18 are none's
+abbrev outcomes : List Outcome
+outcomes = Ok tt ∷ Err Setting ∷ Err Store ∷ Err Sample ∷ Err Channel ∷ Err Length ∷ Err Posted ∷ Err Turn ∷ Err Number ∷ Err Room ∷ Err State ∷ Err Missing ∷ Err Unallowed ∷ Err Bits ∷ Err Count ∷ Err Slot ∷ Err Bytes ∷ Err Frames ∷ Err Frames ∷ Err Frames ∷ []
+
+abbrev outcome_at : ℕ → Outcome
+outcome_at n = get_or outcomes n (Ok tt)
+
+outcome_back : (r : Outcome) → outcome_at (told r) ≡ r
+outcome_back (Ok tt) = refl
+outcome_back (Err Setting) = refl
+outcome_back (Err Store) = refl
+outcome_back (Err Sample) = refl
+outcome_back (Err Channel) = refl
+outcome_back (Err Length) = refl
+outcome_back (Err Posted) = refl
+outcome_back (Err Turn) = refl
+outcome_back (Err Number) = refl
+outcome_back (Err Room) = refl
+outcome_back (Err State) = refl
+outcome_back (Err Missing) = refl
+outcome_back (Err Unallowed) = refl
+outcome_back (Err Bits) = refl
+outcome_back (Err Count) = refl
+outcome_back (Err Slot) = refl
+outcome_back (Err Bytes) = refl
+outcome_back (Err Frames) = refl
+
+pub told_inj : (a b : Outcome) → told a ≡ told b → a ≡ b
+told_inj a b e = sym (outcome_back a) ∙ ap outcome_at e ∙ outcome_back b
+
+-- the refusal of an answer that is refused
+abbrev refusal_in : Outcome → Refusal
+refusal_in (Ok x) = Setting
+refusal_in (Err r) = r
 
 pub number_inj : (a b : Refusal) → number_of a ≡ number_of b → a ≡ b
-number_inj a b e = sym (refusal_back a) ∙ ap refusal_at e ∙ refusal_back b
+number_inj a b e = ap refusal_in (told_inj (Err a) (Err b) e)
 
 -- no later refusal
 pub none_later : (k : ℕ) → or_else k 0 ≡ k
