@@ -1,11 +1,11 @@
--- `find::refusal_of` meets its contract, row by row. Assumes nothing.
+-- `find::check` meets its contract, row by row. Assumes nothing.
 use Rattle.std.proofs.Common.{◌≡◌, sym, false, not, lt-ltb, le-ltb, eq-eqb, ne_eqb, ap}
 use Rattle.ground.specs.Tests.{no_row, this_row, later_row}
 use Rattle.ground.specs.TestsLaws.{is_first}
 use Rattle.settings.specs.Ranges.{settings_ok}
 use Rattle.find.specs.Call.{find_table, find_number}
-use Rattle.find.proofs.refusal_of.Goals as goal
-use Rattle.find.proofs.refusal_of.Goals.{Else-not-in_range}
+use Rattle.find.proofs.check.Goals as goal
+use Rattle.find.proofs.check.Goals.{Else-not-in_range}
 
 pub returns-then-not-in_range : goal.returns-then-not-in_range
 unfolding find_number find_table
