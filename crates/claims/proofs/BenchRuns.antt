@@ -14,8 +14,8 @@ use Rattle.reader.specs.RunLaws.{check_reads}
 use Rattle.modes.specs.Channel.{common_of, channel_items}
 use Rattle.scalers.specs.Scalers.{nothing_counted, latched_now}
 use Rattle.state.specs.declared.State.{State}
-use Rattle.writer.specs.declared.Answer.{Answer}
-use Rattle.writer.specs.declared.Finished.{Finished}
+use Rattle.writer.specs.Answer.{Answer}
+use Rattle.writer.specs.Answer.{Finished}
 use Rattle.state.specs.State.{idle, with_block, with_event, with_mark, with_closed, with_scalers}
 use Rattle.writer.specs.Calls.{OpenBlockSays, OpenEventSays, FinishSays}
 use Rattle.writer.specs.UniqueLaws.{set_up_unique, open_block_unique, open_event_unique, finish_unique}

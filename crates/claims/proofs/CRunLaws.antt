@@ -10,7 +10,7 @@ use Rattle.scalers.specs.declared.Scalers.{Scalers}
 use Rattle.scalers.specs.Scalers.{nothing_counted}
 use Rattle.state.specs.declared.State.{State}
 use Rattle.state.specs.State.{with_scalers}
-use Rattle.writer.specs.declared.Finished.{Finished}
+use Rattle.writer.specs.Answer.{Finished}
 use Rattle.writer.specs.Calls.{OpenEventSays, FinishSays}
 use Rattle.closing.specs.Closing.{CloseSays}
 use Rattle.block.specs.Block.{end_items}
@@ -100,7 +100,7 @@ record Ended (n words : List ℕ) (xs : List Item) (r : ℕ) (words' : List ℕ)
   run : Run (state_from n) words xs
   answer : Finished
   said : FinishSays (state_from n) words answer words'
-  accepted : number_of answer.refusal ≡ 0
+  accepted : told answer.refusal ≡ 0
   length : answer.length ≡ r
 
 ended : {n words : List ℕ} {xs : List Item} → CRun n words xs → (r : ℕ) (n' words' : List ℕ) → FinishFace n words r n' words' → r < 2 ^ 32 → Ended n words xs r words'

@@ -12,7 +12,7 @@ use Rattle.finder.specs.Find.{packed}
 use Rattle.find.specs.Call.{find_table, find_number, found_pulses}
 use Rattle.find.proofs.RulesLaws.{find_says}
 use Rattle.state.specs.declared.State.{State}
-use Rattle.writer.specs.declared.Answer.{Answer}
+use Rattle.writer.specs.Answer.{Answer}
 use Rattle.scalers.specs.Scalers.{nothing_counted, latched_now, reset_now}
 use Rattle.state.specs.State.{state_ok, idle, blank, with_event, with_scalers}
 use Rattle.writer.specs.Calls.{OpenBlockSays, OpenEventSays, PostSays}

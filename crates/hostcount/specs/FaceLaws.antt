@@ -2,14 +2,14 @@
 use Rattle.std.specs.Prelude.{ℕ, ◌≡◌, true, false, List, eqb, length, drop}
 use Rattle.std.proofs.Common.{sym, ap, ◌∙◌, arith, eqb-true, length-take, length-drop}
 use Rattle.ground.specs.Tests.{first_of}
-use Rattle.refusals.specs.Refusal.{number_of, if_accepted}
+use Rattle.refusals.specs.Refusal.{told, if_accepted}
 use Rattle.refusals.specs.declared.Refusal.TheVariants as R
 use Rattle.scalers.specs.declared.Scalers.{Scalers}
 use Rattle.scalers.specs.Scalers.{frames_of, count_frames, latched_now, reset_now}
 use Rattle.state.specs.declared.State.{State}
 use Rattle.state.specs.State.{blank}
 use Rattle.state.specs.StateLaws.{blank_out}
-use Rattle.writer.specs.declared.Answer.{Answer}
+use Rattle.writer.specs.Answer.{Answer}
 use Rattle.places.specs.Places.{thresholds_at, front_count, is_state}
 use Rattle.places.specs.PlacesLaws.{state_count_lem}
 use Rattle.numbers.specs.Numbers.{settings_from, state_from, state_or_none, scalers_stored}
@@ -58,7 +58,7 @@ reset_out = rw blank_out
 
 -- ---- the calls
 
-module _ (n : List ℕ) {s : State} {a : Answer} {r : ℕ} {n' : List ℕ} (f : s ≡ state_or_none n) (k : Kept n (number_of a.refusal) a.state.scalers r n') where
+module _ (n : List ℕ) {s : State} {a : Answer} {r : ℕ} {n' : List ℕ} (f : s ≡ state_or_none n) (k : Kept n (told a.refusal) a.state.scalers r n') where
   pub count_face : (samples : List ℕ) → CountSays s samples a → CountFace n samples r n'
   count_face samples d =
       let number : State → ℕ = λ x. count_number x samples in

@@ -133,28 +133,28 @@ unfolding find_number find_table first_of
 find_out c w = rw none_out
 
 module _ (m : List ℕ) (c : ℕ) (w out : List ℕ) {s : Settings} {a : FindAnswer} (f : s ≡ settings_or_none m) (d : FindSays s c w a) where
-  first_number : (later : ℕ) → or_else (on_settings m (find_number (settings_from m) c w)) later ≡ or_else (number_of a.refusal) later
+  first_number : (later : ℕ) → or_else (on_settings m (find_number (settings_from m) c w)) later ≡ or_else (told a.refusal) later
   first_number later = ap (λ (k : ℕ). or_else k later) (sym (d.refusal ∙ ap (λ (x : Settings). find_number x c w) f ∙ settings_number m (λ (x : Settings). find_number x c w) (find_out c w)))
 
-  pub find_short : {r : ℕ} → r ≡ or_else (number_of a.refusal) bad_array → length out < found_count → FindFace m c w out r out
+  pub find_short : {r : ℕ} → r ≡ or_else (told a.refusal) bad_array → length out < found_count → FindFace m c w out r out
   find_short g k = record { number = rw (lt-ltb _ _ k) (g ∙ sym (first_number bad_array)); numbers = rw (lt-ltb _ _ k) }
 
   -- an accepted call's pulses are those of the numbers' settings, and a refused one has none
-  told : found_numbers a.found ≡ if_accepted (number_of a.refusal) (found_numbers (packed (found_pulses (settings_from m) c w))) (replicate found_count 0)
+  told : found_numbers a.found ≡ if_accepted (told a.refusal) (found_numbers (packed (found_pulses (settings_from m) c w))) (replicate found_count 0)
   told = ap found_numbers d.found ∙ sym (found_or_zeros s c w) ∙ go (is_settings m) f
     where
       numbers : Settings → List ℕ
       numbers x = found_numbers (packed (found_pulses x c w))
 
       go : (b : Bool) → s ≡ cond b (settings_from m) blank.settings
-          → if_accepted (find_number s c w) (numbers s) (replicate found_count 0) ≡ if_accepted (number_of a.refusal) (numbers (settings_from m)) (replicate found_count 0)
+          → if_accepted (find_number s c w) (numbers s) (replicate found_count 0) ≡ if_accepted (told a.refusal) (numbers (settings_from m)) (replicate found_count 0)
       go true p = ap₂ (λ (k : ℕ) (x : Settings). if_accepted k (numbers x) (replicate found_count 0)) (sym d.refusal) p
       go false p = rw (d.refusal, ap (λ (x : Settings). find_number x c w) p ∙ find_out c w)
 
-  pub find_face : {r : ℕ} {out' : List ℕ} → found_count ≤ length out → out' ≡ splice out 0 (found_numbers a.found) → r ≡ number_of a.refusal → FindFace m c w out r out'
+  pub find_face : {r : ℕ} {out' : List ℕ} → found_count ≤ length out → out' ≡ splice out 0 (found_numbers a.found) → r ≡ told a.refusal → FindFace m c w out r out'
   find_face k e g =
       record {
-        number = rw (le-ltb _ _ k) (g ∙ sym (first_number 0 ∙ none_later (number_of a.refusal)));
+        number = rw (le-ltb _ _ k) (g ∙ sym (first_number 0 ∙ none_later (told a.refusal)));
         numbers = rw (le-ltb _ _ k, g) (e ∙ ap (splice out 0) told);
       }
 

@@ -11,8 +11,8 @@ use Rattle.writer.proofs as writer
 use Rattle.closing.proofs as closing
 use Rattle.counting.proofs as counting
 use Rattle.state.specs.declared.State.{State}
-use Rattle.writer.specs.declared.Answer.{Answer}
-use Rattle.writer.specs.declared.Finished.{Finished}
+use Rattle.writer.specs.Answer.{Answer}
+use Rattle.writer.specs.Answer.{Finished}
 use Rattle.writer.specs.Calls.{SetUpSays, OpenBlockSays, OpenEventSays, PostSays, FinishSays}
 use Rattle.closing.specs.Closing.{CloseSays}
 use Rattle.counting.specs.Counting.{CountSays, LatchSays, ResetSays}
