@@ -2,7 +2,7 @@
 use Rattle.std.specs.Prelude.{ℕ, ◌-◌, ◌^◌, ◌<◌, ◌≡◌, refl, Bool, true, false, cond, List, [], ◌∷◌, ◌++◌, length, get_or, take, drop}
 use Rattle.std.proofs.Common.{sym, ap, ◌∙◌, subst, arith}
 use Rattle.ground.specs.Order.{Perm}
-use Rattle.refusals.specs.Refusal.{number_of}
+use Rattle.refusals.specs.Refusal.{told, number_of}
 use Rattle.items.specs.declared.Item.{Item}
 use Rattle.modes.specs.Channel.{common_of, channel_words}
 use Rattle.scan.specs.After.{start_of}

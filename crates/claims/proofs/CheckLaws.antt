@@ -1,7 +1,7 @@
 -- Demand 2 over the C check: a block made by our calls, passed as bytes, gets its length as the number. Assumes nothing.
 use Rattle.std.specs.Prelude.{ℕ, zero, suc, ◌*◌, ◌%◌, ◌≡◌, refl, Bool, cond, List, [], ◌∷◌, length, take}
 use Rattle.std.proofs.Common.{ap, ap₂, ◌∙◌, arith, eq-eqb}
-use Rattle.refusals.specs.Refusal.{number_of}
+use Rattle.refusals.specs.Refusal.{told}
 use Rattle.fields.specs.Bytes.{words_of_bytes}
 use Rattle.fields.proofs.BytesLaws.{bytes_back}
 use Rattle.items.specs.declared.Item.{Item}

@@ -5,7 +5,7 @@ use Rattle.std.proofs.Common.{ap₂, ◌∙◌, true≢false, arith, le-leb, dro
 use Rattle.std.proofs.Math.Bool.{cond}
 use mathlib.Core.List.{List, [], ◌∷◌, ◌++◌, map}
 use Rattle.std.proofs.Math.ListN.{length, take, drop, length-append, length-drop, length-map}
-use Rattle.refusals.specs.Refusal.{number_of}
+use Rattle.refusals.specs.Refusal.{told}
 use Rattle.framing.specs.Words.{empty, filler}
 use Rattle.items.specs.Items.{word_of, words_of, form_of, clean_of}
 use Rattle.items.specs.declared.Item.{Item}

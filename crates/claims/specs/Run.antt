@@ -1,7 +1,7 @@
 -- A run of calls since a block was opened: every call from the state that the last one gave and with the same buffer, any store at each, refused calls
 -- and calls that count between. Beside it stand the records written so far. Assumes nothing.
 use Rattle.std.specs.Prelude.{ℕ, ◌≡◌, Bool, List, ◌++◌, length}
-use Rattle.refusals.specs.Refusal.{number_of}
+use Rattle.refusals.specs.Refusal.{told}
 use Rattle.items.specs.declared.Item.{Item}
 use Rattle.state.specs.declared.State.{State}
 use Rattle.writer.specs.Answer.{Answer}

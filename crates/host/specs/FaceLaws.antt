@@ -12,7 +12,7 @@ use Rattle.ground.specs.Tests.{first_of}
 use Rattle.copies.specs.Copies.{pasted}
 use Rattle.copies.specs.CopiesLaws.{pasted_fits}
 use Rattle.settings.specs.declared.Settings.{Settings}
-use Rattle.refusals.specs.Refusal.{number_of, bad_array, if_accepted, or_else}
+use Rattle.refusals.specs.Refusal.{number_of, told, bad_array, if_accepted, or_else}
 use Rattle.refusals.specs.RefusalLaws.{none_later}
 use Rattle.refusals.specs.declared.Refusal.TheVariants as R
 use Rattle.items.specs.Items.{words_of}
@@ -39,8 +39,8 @@ use Rattle.host.specs.Face.{block_opened, posted, event_closed, finish_on, in_hi
 use Rattle.host.specs.Inner.{Kept, event_placed, MarkFits, mark_placed}
 
 -- the numbers of an answer, told by the number that C gets
-told : {n : List ℕ} {number : ℕ} {s : State} {r : ℕ} {n' : List ℕ} → Kept n number s r n' → n' ≡ if_accepted r (head_stored n s) n
-told {n = n} {s = s} k = k.left ∙ ap (λ (j : ℕ). if_accepted j (head_stored n s) n) (sym k.answer)
+left : {n : List ℕ} {number : ℕ} {s : State} {r : ℕ} {n' : List ℕ} → Kept n number s r n' → n' ≡ if_accepted r (head_stored n s) n
+left {n = n} {s = s} k = k.left ∙ ap (λ (j : ℕ). if_accepted j (head_stored n s) n) (sym k.answer)
 
 pub kept_done : (n : List ℕ) (number : ℕ) (s : State) (n' : List ℕ) → eqb number 0 ≡ true → n' ≡ head_stored n s → Kept n number s 0 n'
 kept_done n number s n' e f = record { answer = sym (eqb-true number 0 e); left = rw e f }
@@ -100,7 +100,7 @@ open_block_face n words block events f d k =
     let g = k.answer ∙ d.refusal in
     record {
       number = call_number n number (block_out (length words) block events) f g;
-      numbers = call_numbers n number (block_out (length words) block events) f g (λ (x : State). block_opened x block events) (block_same block events) d.state (told k);
+      numbers = call_numbers n number (block_out (length words) block events) f g (λ (x : State). block_opened x block events) (block_same block events) d.state (left k);
       buffer = call_lent n number (block_out (length words) block events) f g (λ (x : State). splice words x.words (words_of (block_items x.settings block events))) words d.buffer;
     }
 
@@ -172,7 +172,7 @@ close_face n store words asked f d k =
     let g = k.answer ∙ d.refusal in
     record {
       number = call_number n number out f g;
-      numbers = call_numbers n number out f g (λ (x : State). event_closed x asked store) (close_same asked store) d.state (told k);
+      numbers = call_numbers n number out f g (λ (x : State). event_closed x asked store) (close_same asked store) d.state (left k);
       buffer = call_lent n number out f g (λ (x : State). splice words x.words (words_of (closing_items x asked store))) words d.buffer;
     }
 
@@ -197,7 +197,7 @@ finish_face n words {a = a} {j = j} f d k h =
     let new : State → List ℕ = λ x. splice words x.words (words_of (end_items x.settings x.words)) in
     record {
       number = h ∙ high (eqb j 0) a.length (size (state_from n)) (j * 2 ^ 32) (call_lent n number (idle_out (length words)) f g size 0 d.size) ∙ ap (λ (i : ℕ). in_high i (size (state_from n))) same;
-      numbers = call_numbers n number (idle_out (length words)) f g (λ (x : State). idle x.settings x.scalers) idle_same d.state (told k) ∙ ap (λ (i : ℕ). if_accepted i (numbers_of (idle (state_from n).settings (state_from n).scalers)) n) same;
+      numbers = call_numbers n number (idle_out (length words)) f g (λ (x : State). idle x.settings x.scalers) idle_same d.state (left k) ∙ ap (λ (i : ℕ). if_accepted i (numbers_of (idle (state_from n).settings (state_from n).scalers)) n) same;
       buffer = call_lent n number (idle_out (length words)) f g new words d.buffer ∙ ap (λ (i : ℕ). if_accepted i (new (state_from n)) words) same;
     }
   where

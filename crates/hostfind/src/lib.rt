@@ -1,8 +1,9 @@
 // What C calls to find pulses: those of one window, as numbers that the host lends.
 #![tactic(auto)]
 
-ghost use Rattle.std.specs.Prelude.{◌≡◌, ◌<◌, ◌≤◌, length};
+ghost use Rattle.std.specs.Prelude.{◌≡◌, ◌<◌, ◌≤◌, length, replicate};
 ghost use Rattle.ground.specs.Splice.{splice};
+ghost use Rattle.copies.specs.Copies.{pasted};
 ghost use Rattle.hostfind.specs.Found.{pulse_numbers, pulse_row, found_count, found_numbers, FindFace};
 ghost use Rattle.hostfind.specs.Inner.{Small, AllSmall};
 
@@ -70,22 +71,34 @@ fn put_found(out: &mut [u32], found: Pulses)
     copies::put32(out, THIRD, &third);
 }
 
+// No pulses are left of an older window.
+fn clear(out: &mut [u32])
+    ensures { out.new ≡ pasted out.old 0 (replicate found_count 0) }
+{
+    copies::put32(out, 0, &[0; FOUND]);
+}
+
 pub fn fadc250_find(settings: &[u64], channel: u32, window: &[u16], out: &mut [u32]) -> u32
     ensures { FindFace settings.now channel window.now out.old result out.new }
 {
     // Asked before they are loaded, which asks again: the compiler then keeps no number for both ways, and asks once.
     if !is_settings(settings) {
-        let zeros = [0u32; FOUND];
-        copies::put32(out, 0, &zeros);
-        return refusals::number(Refusal::Setting);
+        clear(out);
+        return Refusal::Setting.number();
     }
     let loaded = settings_or_none(settings);
     let answer = find::find(loaded, channel as usize, window);
-    let refusal = answer.refusal;
     if out.len() < FOUND {
-        return refusals::or_bad_array(refusal);
+        return refusals::told_bad_array(answer);
     }
-    let found = answer.found;
-    put_found(out, found);
-    refusals::number(refusal)
+    match answer {
+        Ok(found) => {
+            put_found(out, found);
+            0
+        }
+        Err(refusal) => {
+            clear(out);
+            refusal.number()
+        }
+    }
 }

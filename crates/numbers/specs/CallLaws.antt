@@ -7,7 +7,7 @@ use Rattle.ground.specs.Splice.{splice}
 use Rattle.copies.specs.CopiesLaws.{pasted_fits}
 use Rattle.settings.specs.declared.Settings.{Settings}
 use Rattle.scalers.specs.declared.Scalers.{Scalers}
-use Rattle.refusals.specs.Refusal.{told, if_accepted}
+use Rattle.refusals.specs.Refusal.{number_of, if_accepted}
 use Rattle.refusals.specs.declared.Refusal.TheVariants as R
 use Rattle.state.specs.declared.State.{State}
 use Rattle.state.specs.State.{blank, with_scalers}

@@ -2,7 +2,7 @@
 -- Frames, latches and resets may come between any two calls (document 02). Assumes nothing.
 use Rattle.std.specs.Prelude.{ℕ, ◌≢◌, List, [], ◌∷◌}
 use Rattle.ground.specs.Order.{Pairwise}
-use Rattle.refusals.specs.Refusal.{number_of}
+use Rattle.refusals.specs.Refusal.{told}
 use Rattle.state.specs.declared.State.{State}
 use Rattle.writer.specs.Answer.{Answer}
 use Rattle.writer.specs.Calls.{PostSays}

@@ -7,7 +7,7 @@ use Rattle.fields.specs.Word.{read}
 use Rattle.fields.specs.Tag.{is_defining, is_continuation}
 use Rattle.settings.specs.declared.Settings.{Settings}
 use Rattle.modes.specs.Channel.{common_of}
-use Rattle.refusals.specs.Refusal.{number_of}
+use Rattle.refusals.specs.Refusal.{told}
 use Rattle.state.specs.declared.State.{State}
 use Rattle.writer.specs.Answer.{Answer}
 use Rattle.writer.specs.Calls.{OpenEventSays}

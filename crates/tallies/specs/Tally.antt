@@ -1,6 +1,6 @@
 -- What a state holds of its counts after any calls since a set up, said over all the frames fed: document 02, "Scaler words". Assumes nothing.
 use Rattle.std.specs.Prelude.{ℕ, suc, ◌+◌, ◌/◌, ◌%◌, ◌^◌, ◌≡◌, Bool, false, not, cond, ◌&&◌, List, [], ◌∷◌, ◌++◌, map, length, get_or}
-use Rattle.refusals.specs.Refusal.{number_of}
+use Rattle.refusals.specs.Refusal.{told}
 use Rattle.samples.specs.Sample.{is_over}
 use Rattle.settings.specs.declared.Settings.{Settings}
 use Rattle.scalers.specs.declared.Scalers.{Scalers}
