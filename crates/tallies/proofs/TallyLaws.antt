@@ -215,36 +215,36 @@ moves : {now held : Moment} (n : ℕ) (new old : State) (r : Answer) → told r.
     → told r.refusal ≡ 0 → Told now held new → Told now held r.state
 moves {now} {held} n new old r e f z h = subst (Told now held) (sym (f ∙ done new old (sym e ∙ z))) h
 
-told : {s : State} {now held : Moment} → Tallied s now held → Told now held s
+tells : {s : State} {now held : Moment} → Tallied s now held → Told now held s
 unfolding idle with_scalers with_event
-told (set_up settings r sixteen says z) =
+tells (set_up settings r sixteen says z) =
     moves (set_up_number settings) (idle settings nothing_counted) blank r says.refusal says.state z (record { sixteen = sixteen; tally = fresh_tally settings.thresholds })
-told (frames {s} {now} {held} run samples r says z) =
-    let h = told run in
+tells (frames {s} {now} {held} run samples r says z) =
+    let h = tells run in
     let ts = s.settings.thresholds in
     let counts = ap (λ (c : Scalers). count_frames ts c (frames_of samples)) h.tally ∙ samples_tally ts h.sixteen held now samples in
     moves (count_number s samples) (with_frames s samples) s r says.refusal says.state z (record { sixteen = h.sixteen; tally = counts })
-told (event {s} {now} {held} run number time r says z) =
-    let h = told run in
+tells (event {s} {now} {held} run number time r says z) =
+    let h = tells run in
     let counts = ap triggered h.tally ∙ event_tally s.settings.thresholds now held in
     moves (open_event_number s number time) (with_event s number time) s r says.refusal says.state z (record { sixteen = h.sixteen; tally = counts })
-told (latch {s} {now} {held} run r says z) =
-    let h = told run in
+tells (latch {s} {now} {held} run r says z) =
+    let h = tells run in
     let counts = ap latched_now h.tally ∙ latch_tally s.settings.thresholds now held in
     moves (latch_number s) (with_scalers s (latched_now s.scalers)) s r says.refusal says.state z (record { sixteen = h.sixteen; tally = counts })
-told (reset {s} {now} {held} run r says z) =
-    let h = told run in
+tells (reset {s} {now} {held} run r says z) =
+    let h = tells run in
     let counts = ap reset_now h.tally ∙ reset_tally s.settings.thresholds now held in
     moves (reset_number s) (with_scalers s (reset_now s.scalers)) s r says.refusal says.state z (record { sixteen = h.sixteen; tally = counts })
-told (other {s} {t} {now} {held} run call) =
-    let h = told run in
+tells (other {s} {t} {now} {held} run call) =
+    let h = tells run in
     let a = uncounted call in
     let thresholds = ap (λ (c : Settings). c.thresholds) a.0 in
     record { sixteen = ap length thresholds ∙ h.sixteen; tally = a.1 ∙ h.tally ∙ ap (λ (ts : List ℕ). tally_of ts now held) (sym thresholds) }
 
 -- after any calls since a set up all that is counted is the tally of the frames fed and the events opened
 pub tallies : {s : State} {now held : Moment} → Tallied s now held → s.scalers ≡ tally_of s.settings.thresholds now held
-tallies run = (told run).tally
+tallies run = (tells run).tally
 
 -- ---- what follows
 
