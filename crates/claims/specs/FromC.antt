@@ -3,8 +3,10 @@ use Rattle.std.specs.Prelude.{ℕ, ◌*◌, ◌-◌, ◌^◌, ◌≤◌, ◌<◌
 use Rattle.ground.specs.Splice.{splice}
 use Rattle.settings.specs.declared.Settings.{Settings}
 use Rattle.refusals.specs.Refusal.{told as number_told}
-use Rattle.find.specs.declared.FindAnswer.{FindAnswer}
-use Rattle.find.specs.Call.{FindSays}
+use Rattle.std.specs.declared.result.Result.{Result}
+use Rattle.refusals.specs.declared.Refusal.{Refusal}
+use Rattle.finder.specs.declared.Pulses.{Pulses}
+use Rattle.find.specs.Call.{found_in, FindSays}
 use Rattle.items.specs.declared.Item.{Item}
 use Rattle.writer.specs.Answer.{Answer}
 use Rattle.writer.specs.Answer.{Finished}
@@ -47,10 +49,10 @@ pub record FinishCall (n words : List ℕ) (r : ℕ) (n' words' : List ℕ) : Ty
 
 -- and of the finder: the numbers of the pulses that it answers, which are none where it refuses
 pub record FindCall (settings : List ℕ) (c : ℕ) (w out : List ℕ) (r : ℕ) (out' : List ℕ) : Type 0 where
-  pub answer : FindAnswer
+  pub answer : Result Pulses Refusal
   pub said : FindSays (settings_from settings) c w answer
-  pub number : number_told answer.refusal ≡ r
-  pub found : out' ≡ splice out 0 (found_numbers answer.found)
+  pub number : number_told answer ≡ r
+  pub found : out' ≡ splice out 0 (found_numbers (found_in answer))
 
 -- the calls that count
 abbrev pub AsideFace : Aside → List ℕ → ℕ → List ℕ → Type 0

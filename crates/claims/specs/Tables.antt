@@ -8,7 +8,9 @@ use Rattle.settings.specs.declared.Settings.{Settings}
 use Rattle.settings.specs.Ranges.{settings_ok}
 use Rattle.refusals.specs.Refusal.{told, if_accepted}
 use Rattle.find.specs.Call.{find_table, find_number, FindSays}
-use Rattle.find.specs.declared.FindAnswer.{FindAnswer}
+use Rattle.std.specs.declared.result.Result.{Result}
+use Rattle.refusals.specs.declared.Refusal.{Refusal}
+use Rattle.finder.specs.declared.Pulses.{Pulses}
 use Rattle.scan.specs.declared.Scan.{Scan}
 use Rattle.reader.specs.declared.Step.{Step}
 use Rattle.reader.specs.declared.Judged.{Judged}
@@ -138,7 +140,7 @@ aside_exactly (frames samples) s r h = exactly _ h.refusal
 aside_exactly latch s r h = exactly _ h.refusal
 aside_exactly reset s r h = exactly _ h.refusal
 
-pub find_exactly : (s : Settings) (c : ℕ) (w : List ℕ) (r : FindAnswer) → FindSays s c w r → Exactly (find_table s c w) (told r.refusal)
+pub find_exactly : (s : Settings) (c : ℕ) (w : List ℕ) (r : Result Pulses Refusal) → FindSays s c w r → Exactly (find_table s c w) (told r)
 unfolding find_number
 find_exactly s c w r h = exactly _ h.refusal
 

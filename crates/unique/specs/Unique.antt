@@ -93,6 +93,7 @@ use Rattle.counting.specs.contracts as counting_contracts
 use Rattle.counting.specs.CountingLaws as counted
 use Rattle.closing.specs.ClosingLaws as closed
 use Rattle.writer.specs.UniqueLaws as W
+use Rattle.writer.specs.AnswerLaws.{made_inj, finished_inj}
 use Rattle.scan.proofs as scan
 use Rattle.scan.specs.contracts as scan_contracts
 use Rattle.meaning.proofs as meaning
@@ -680,32 +681,32 @@ finish_check_unique κs a r s u v p q = (W.one_refusal r s p q, refl)
 
 -- writer
 pub set_up_unique : Unique writer_contracts.set_up.ended writer.set_up.Reads.Learnt
-set_up_unique κs a r s u v p q = (W.set_up_unique _ _ _ p q, refl)
+set_up_unique κs a r s u v p q = (made_inj _ _ (W.set_up_unique _ _ _ p q), refl)
 
 pub open_block_unique : Unique writer_contracts.open_block.ended writer.open_block.Reads.Learnt
-open_block_unique κs a r s u v p q = let e = W.open_block_unique _ _ _ _ _ _ _ _ p q in (e.0, λ i. (tt, (e.1 i, u.1.1)))
+open_block_unique κs a r s u v p q = let e = W.open_block_unique _ _ _ _ _ _ _ _ p q in (λ i. (e.0 i).refusal, λ i. ((e.0 i).state, (e.1 i, u.1.1)))
 
 pub open_event_unique : Unique writer_contracts.open_event.ended writer.open_event.Reads.Learnt
-open_event_unique κs a r s u v p q = (W.open_event_unique _ _ _ _ _ p q, refl)
+open_event_unique κs a r s u v p q = let e = W.open_event_unique _ _ _ _ _ p q in (λ i. (e i).refusal, λ i. ((e i).state, u.1))
 
 pub post_unique : Unique writer_contracts.post.ended writer.post.Reads.Learnt
-post_unique κs a r s u v p q = let e = W.post_unique _ _ _ _ _ _ _ _ p q in (e.0, λ i. (tt, (e.1 i, u.1.1)))
+post_unique κs a r s u v p q = let e = W.post_unique _ _ _ _ _ _ _ _ p q in (λ i. (e.0 i).refusal, λ i. ((e.0 i).state, (e.1 i, u.1.1)))
 
 pub close_unique : Unique closing_contracts.close.ended closing.close.Reads.Learnt
-close_unique κs a r s u v p q = let e = closed.close_unique _ _ _ _ _ _ _ _ p q in (e.0, λ i. (tt, (tt, (e.1 i, u.1.1.1))))
+close_unique κs a r s u v p q = let e = closed.close_unique _ _ _ _ _ _ _ _ p q in (λ i. (e.0 i).refusal, λ i. ((e.0 i).state, (tt, (e.1 i, u.1.1.1))))
 
 pub finish_unique : Unique writer_contracts.finish.ended writer.finish.Reads.Learnt
-finish_unique κs a r s u v p q = let e = W.finish_unique _ _ _ _ _ _ p q in (e.0, λ i. (tt, (e.1 i, tt)))
+finish_unique κs a r s u v p q = let e = W.finish_unique _ _ _ _ _ _ p q in let f = finished_inj _ _ _ _ e.0 in (f.0, λ i. (f.1 i, (e.1 i, tt)))
 
 -- counting
 pub count_unique : Unique counting_contracts.count.ended counting.count.Reads.Learnt
-count_unique κs a r s u v p q = (counted.count_unique _ _ _ _ p q, refl)
+count_unique κs a r s u v p q = let e = counted.count_unique _ _ _ _ p q in (λ i. (e i).refusal, λ i. ((e i).state, u.1))
 
 pub latch_unique : Unique counting_contracts.latch.ended counting.latch.Reads.Learnt
-latch_unique κs a r s u v p q = (counted.latch_unique _ _ _ p q, refl)
+latch_unique κs a r s u v p q = let e = counted.latch_unique _ _ _ p q in (λ i. (e i).refusal, λ i. ((e i).state, tt))
 
 pub reset_unique : Unique counting_contracts.reset.ended counting.reset.Reads.Learnt
-reset_unique κs a r s u v p q = (counted.reset_unique _ _ _ p q, refl)
+reset_unique κs a r s u v p q = let e = counted.reset_unique _ _ _ p q in (λ i. (e i).refusal, λ i. ((e i).state, tt))
 
 -- ---- reading
 
