@@ -6,6 +6,7 @@ ghost use Rattle.items.specs.Items.{word_of, item_from, fixed_in};
 
 pub mod put;
 
+use fields::record::Record;
 use framing::block_header::BlockHeader;
 use framing::empty::ModuleEmpty;
 use framing::event_header::EventHeader;

@@ -5,6 +5,7 @@ ghost use Rattle.items.specs.Items.{word_of};
 ghost use Rattle.pulse.specs.Pulse.{integral_item, time_item, pedestal_item};
 
 use finder::Pulse;
+use fields::record::Record;
 use measures::integral::PulseIntegral;
 use measures::pedestal::PulsePedestal;
 use measures::time::PulseTime;
