@@ -6,6 +6,8 @@ ghost use Rattle.fields.specs.Word.{field_at, put_at};
 ghost use Rattle.fields.specs.Tag.{is_defining, is_continuation};
 ghost use Rattle.fields.specs.Bytes.{word_of_bytes, bytes_of};
 
+pub mod record;
+
 // The field of `width` bits from bit `place` on. Nothing is out of range: past bit 31 there are zeros.
 pub fn take(word: u32, place: u32, width: u32) -> u32
     ensures { result ≡ field_at word place width }

@@ -4,6 +4,7 @@
 ghost use Rattle.std.specs.Prelude.{◌≡◌, cond, [], ◌∷◌, eqb};
 ghost use Rattle.meaning.specs.Meaning.{scaler_or, more_in, edges, inner, opening, allowed_in, other_in, meaning_in, meaning_at, unfinished};
 
+use fields::record::Defining;
 use framing::block_header::BlockHeader;
 use framing::empty::ModuleEmpty;
 use framing::event_header::EventHeader;

@@ -5,6 +5,7 @@
 ghost use Rattle.std.specs.Prelude.{[], ◌≡◌, drop};
 ghost use Rattle.rawitems.specs.Pairs.{pair_due, pairs_from, part_of};
 
+use fields::record::Continuation;
 use raw::pair::SamplePair;
 use reader::Step;
 use scan::{Scan, Stage};

@@ -4,6 +4,7 @@ ghost use Rattle.questions.specs.Questions.{at_limit};
 ghost use Rattle.reader.specs.Reader.{step_at};
 
 use crate::Step;
+use fields::record::Continuation;
 use items::Form;
 use raw::pair::SamplePair;
 use refusals::Refusal;

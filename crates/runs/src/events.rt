@@ -3,6 +3,7 @@ ghost use Rattle.std.specs.Prelude.{◌≡◌, ◌*◌, ◌≤◌, length};
 ghost use Rattle.fields.specs.Bytes.{words_of_bytes};
 ghost use Rattle.runs.specs.Runs.{head_size, HeadTo, PassedTo};
 
+use fields::record::{Continuation, Defining};
 use framing::event_header::EventHeader;
 use framing::trigger_time::TriggerTime;
 use framing::trigger_time_high::TriggerTimeHigh;

@@ -6,6 +6,7 @@ ghost use Rattle.std.specs.Prelude.{◌≡◌, true, ◌+◌, ◌*◌, ◌≤◌
 ghost use Rattle.fields.specs.Bytes.{words_of_bytes};
 ghost use Rattle.runs.specs.Runs.{Behind, Passed, Onward};
 
+use fields::record::Defining;
 use framing::trailer::BlockTrailer;
 use framing::trigger_time::TriggerTime;
 use scan::{Scan, Stage};

@@ -8,6 +8,7 @@ ghost use Rattle.raw.specs.Plain.{plain};
 ghost use Rattle.stretches.specs.Stretches.{single, All};
 ghost use Rattle.runs.specs.Runs.{raw_head, Passed};
 
+use fields::record::Defining;
 use raw::pulse_raw::PulseRaw;
 use raw::window::WindowRaw;
 

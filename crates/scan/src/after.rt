@@ -5,6 +5,7 @@ ghost use Rattle.items.specs.Items.{item_from};
 ghost use Rattle.scan.specs.After.{onward, paired, filled, scaled, after};
 
 use crate::{Scan, Stage};
+use fields::record::Record;
 use framing::block_header::BlockHeader;
 use items::Form;
 

@@ -3,6 +3,7 @@ ghost use Rattle.std.specs.Prelude.{◌≡◌, true, ◌+◌, ◌*◌, ◌≤◌
 ghost use Rattle.fields.specs.Bytes.{words_of_bytes};
 ghost use Rattle.stretches.specs.Stretches.{measure, leading, Row};
 
+use fields::record::Defining;
 use measures::integral::PulseIntegral;
 use measures::pedestal::PulsePedestal;
 use measures::time::PulseTime;
