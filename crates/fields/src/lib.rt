@@ -59,11 +59,11 @@ pub fn is_continuation(word: u32) -> bool
     take(word, 31, 1) == 0
 }
 
-// The word of four bytes, the highest first.
+// The word of four bytes, the highest first. Not by `u32::from_be_bytes`, which was slower: its sums do not become one load.
 pub fn of_bytes(a: u8, b: u8, c: u8, d: u8) -> u32
     ensures { result ≡ word_of_bytes a b c d }
 {
-    u32::from_be_bytes([a, b, c, d])
+    (u32::from(a) << 24) | ((u32::from(b) << 16) | ((u32::from(c) << 8) | u32::from(d)))
 }
 
 // The four bytes of a word, the highest first.
