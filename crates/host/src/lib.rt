@@ -26,7 +26,7 @@ pub fn fadc250_set_up(settings: &[u64], state: &mut [u64]) -> u32
     if !refusals::accepted(refusal) {
         // no call takes zeros for a state
         let zeros: [u64; places::STATE] = [0; places::STATE];
-        copies::put64(state, 0, &zeros);
+        copies::put(state, 0, &zeros);
         return refusals::number(refusal);
     }
     let new = answer.state;

@@ -64,10 +64,10 @@ fn put_found(out: &mut [u32], found: Pulses)
     let first = pulse_row(found, 0);
     let second = pulse_row(found, 1);
     let third = pulse_row(found, 2);
-    copies::put32(out, 0, &count);
-    copies::put32(out, FIRST, &first);
-    copies::put32(out, SECOND, &second);
-    copies::put32(out, THIRD, &third);
+    copies::put(out, 0, &count);
+    copies::put(out, FIRST, &first);
+    copies::put(out, SECOND, &second);
+    copies::put(out, THIRD, &third);
 }
 
 pub fn fadc250_find(settings: &[u64], channel: u32, window: &[u16], out: &mut [u32]) -> u32
@@ -76,7 +76,7 @@ pub fn fadc250_find(settings: &[u64], channel: u32, window: &[u16], out: &mut [u
     // Asked before they are loaded, which asks again: the compiler then keeps no number for both ways, and asks once.
     if !is_settings(settings) {
         let zeros = [0u32; FOUND];
-        copies::put32(out, 0, &zeros);
+        copies::put(out, 0, &zeros);
         return refusals::number(Refusal::Setting);
     }
     let loaded = settings_or_none(settings);

@@ -9,7 +9,7 @@ returns-then-state-ne-STATE c =
 
 pub returns-then-not-accepted : goal.returns-then-not-accepted
 returns-then-not-accepted c =
-    set_up_refused _ _ c.settings_or_none-loaded.ensures c.set_up-answer.ensures c.if-state-ne-STATE.false (sym c.accepted.ensures ∙ c.if-not-accepted.true) c.put64.ensures c.number.ensures
+    set_up_refused _ _ c.settings_or_none-loaded.ensures c.set_up-answer.ensures c.if-state-ne-STATE.false (sym c.accepted.ensures ∙ c.if-not-accepted.true) c.put.ensures c.number.ensures
 
 pub returns : goal.returns
 returns c =

@@ -5,7 +5,7 @@ use Rattle.hostfind.proofs.fadc250_find.Goals as goal
 
 pub returns-then-not-is_settings : goal.returns-then-not-is_settings
 returns-then-not-is_settings c =
-    find_none _ _ _ _ (sym c.is_settings.ensures ∙ c.if-not-is_settings.true) c.put32.ensures c.number.ensures
+    find_none _ _ _ _ (sym c.is_settings.ensures ∙ c.if-not-is_settings.true) c.put.ensures c.number.ensures
 
 pub returns-then-out-lt-FOUND : goal.returns-then-out-lt-FOUND
 returns-then-out-lt-FOUND c =
