@@ -99,29 +99,20 @@ fn head_limits() -> [u64; HEAD]
 fn held_in(limits: &[u64], numbers: &[u64]) -> bool
     ensures { result ≡ held_in limits.now numbers.now }
 {
-    if numbers.len() != limits.len() {
-        return false;
-    }
-    let mut good = true;
-    let mut i = 0;
-    while i < limits.len() {
-        good = good & (numbers[i] <= limits[i]);
-        i += 1;
-    }
-    good
+    numbers.len() == limits.len()
+        && numbers
+            .iter()
+            .zip(limits)
+            .fold(true, |good, (number, limit)| good & (*number <= *limit))
 }
 
 // Each is held by a 32-bit field.
 fn held_in_32(numbers: &[u64]) -> bool
     ensures { result ≡ all_le most32 numbers.now }
 {
-    let mut good = true;
-    let mut i = 0;
-    while i < numbers.len() {
-        good = good & (numbers[i] <= MOST_32);
-        i += 1;
-    }
-    good
+    numbers
+        .iter()
+        .fold(true, |good, number| good & (*number <= MOST_32))
 }
 
 // As many as the settings are, each held by its field. The thresholds are taken from the end: at a place that is no constant
