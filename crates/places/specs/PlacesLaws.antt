@@ -154,15 +154,14 @@ tail_part l k = take_all (length l - k) (drop k l) (rw (length-drop k l) (omega 
 -- ---- asking
 
 -- the fields and the thresholds of settings, as the code cuts them
-pub settings_asked : (n : List ℕ) {l : List ℕ} {f t : Bool} → 16 ≤ length n → l ≡ take thresholds_at settings_limits
-    → f ≡ held_in l (take (length n - 16) n)
+pub settings_asked : (n : List ℕ) {f t : Bool} → 16 ≤ length n → f ≡ held_in (take thresholds_at settings_limits) (take (length n - 16) n)
     → t ≡ all_le most32 (take (length n - (length n - 16)) (drop (length n - 16) n))
     → f && t ≡ is_settings n
 unfolding is_settings
-settings_asked n h e f g =
+settings_asked n h f g =
     let k : ℕ = length n - 16 in
     let long : length (drop k n) ≡ 16 = omega (arith, length-drop k n) in
-    ap₂ ◌&&◌ (f ∙ ap (λ (l : List ℕ). held_in l (take k n)) e) (g ∙ ap (all_le most32) (tail_part n k) ∙ sym (held_same most32 16 (drop k n) long))
+    ap₂ ◌&&◌ f (g ∙ ap (all_le most32) (tail_part n k) ∙ sym (held_same most32 16 (drop k n) long))
     ∙ sym (held_parts (take thresholds_at settings_limits) (replicate 16 most32) (take k n) (drop k n) long)
     ∙ ap (held_in settings_limits) (take-append-drop k n)
 
@@ -189,12 +188,12 @@ scalers_asked l h e f =
     ∙ ap (held_in scaler_limits) (take-append-drop 19 l)
 
 -- the three parts of a state's numbers, as the code cuts them
-pub state_asked : (n : List ℕ) {l : List ℕ} {h c s : Bool} → front_count ≤ length n → l ≡ head_limits → h ≡ held_in l (take head_count n) → c ≡ held_in scaler_limits (take 38 (drop head_count n))
+pub state_asked : (n : List ℕ) {h c s : Bool} → front_count ≤ length n → h ≡ held_in head_limits (take head_count n) → c ≡ held_in scaler_limits (take 38 (drop head_count n))
     → s ≡ is_settings (take (length n - front_count) (drop front_count n)) → h && (c && s) ≡ is_state n
 unfolding is_state
-state_asked n {l} {h} {c} {s} long e f g k =
+state_asked n {h} {c} {s} long f g k =
     let size : length (take 38 (drop head_count n)) ≡ 38 = omega (arith, long, length-take 38 (drop head_count n), length-drop head_count n) in
     let both : take head_count n ++ take 38 (drop head_count n) ≡ take front_count n = sym (take-add head_count 38 n) in
     let front : held_in front_limits (take front_count n) ≡ h && c =
-    ap (held_in front_limits) (sym both) ∙ held_parts head_limits scaler_limits (take head_count n) (take 38 (drop head_count n)) size ∙ ap₂ ◌&&◌ (sym (f ∙ ap (λ (x : List ℕ). held_in x (take head_count n)) e)) (sym g) in
+    ap (held_in front_limits) (sym both) ∙ held_parts head_limits scaler_limits (take head_count n) (take 38 (drop head_count n)) size ∙ ap₂ ◌&&◌ (sym f) (sym g) in
     sym (and_assoc h c s) ∙ ap₂ ◌&&◌ (sym front) (k ∙ ap is_settings (tail_part n front_count))

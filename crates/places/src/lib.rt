@@ -77,23 +77,15 @@ const MOST_32: u64 = 4294967295;
 
 const MOST_64: u64 = 18446744073709551615;
 
-// Of each settings field before the thresholds, in the order of their places.
-fn field_limits() -> [u64; THRESHOLDS]
-    ensures { result ≡ take thresholds_at settings_limits }
-{
-    [
-        MOST_32, MOST_64, MOST_32, MOST_64, MOST_64, MOST_64, MOST_32, 1, MOST_32, MOST_32,
-    ]
-}
+// The greatest of each settings field before the thresholds, in the order of their places.
+const FIELD_LIMITS: [u64; THRESHOLDS] = [
+    MOST_32, MOST_64, MOST_32, MOST_64, MOST_64, MOST_64, MOST_32, 1, MOST_32, MOST_32,
+];
 
-// Phase, block number, events to come, event number, time, posted marks, events closed, words written.
-fn head_limits() -> [u64; HEAD]
-    ensures { result ≡ head_limits }
-{
-    [
-        2, MOST_32, MOST_32, MOST_32, MOST_64, 65535, MOST_32, MOST_64,
-    ]
-}
+// Of phase, block number, events to come, event number, time, posted marks, events closed, words written.
+const HEAD_LIMITS: [u64; HEAD] = [
+    2, MOST_32, MOST_32, MOST_32, MOST_64, 65535, MOST_32, MOST_64,
+];
 
 // As many numbers as limits, and each at most its limit.
 fn held_in(limits: &[u64], numbers: &[u64]) -> bool
@@ -125,8 +117,7 @@ pub fn is_settings(numbers: &[u64]) -> bool
     }
     let first = numbers.len() - CHANNELS;
     let thresholds = held_in_32(&numbers[first..]);
-    let limits = field_limits();
-    let fields = held_in(&limits, &numbers[..first]);
+    let fields = held_in(&FIELD_LIMITS, &numbers[..first]);
     fields & thresholds
 }
 
@@ -151,7 +142,6 @@ pub fn is_state(numbers: &[u64]) -> bool
     }
     let settings = is_settings(&numbers[FRONT..]);
     let scalers = held_scalers(&numbers[HEAD..FRONT]);
-    let limits = head_limits();
-    let head = held_in(&limits, &numbers[..HEAD]);
+    let head = held_in(&HEAD_LIMITS, &numbers[..HEAD]);
     head & (scalers & settings)
 }
