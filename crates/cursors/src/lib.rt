@@ -149,5 +149,5 @@ pub fn put_scan(numbers: &mut [u32], scan: Scan)
     ensures { numbers.new ≡ scan_stored numbers.old scan }
 {
     let cursor = cursor_of(scan);
-    copies::put32(numbers, 0, &cursor);
+    copies::put(numbers, 0, &cursor);
 }

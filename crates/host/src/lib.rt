@@ -27,7 +27,7 @@ pub fn fadc250_set_up(settings: &[u64], state: &mut [u64]) -> u32
         }
         Err(refusal) => {
             // no call takes zeros for a state
-            copies::put64(state, 0, &[0; places::STATE]);
+            copies::put(state, 0, &[0; places::STATE]);
             refusal.number()
         }
     }

@@ -65,17 +65,17 @@ fn put_found(out: &mut [u32], found: Pulses)
     let first = pulse_row(found, 0);
     let second = pulse_row(found, 1);
     let third = pulse_row(found, 2);
-    copies::put32(out, 0, &count);
-    copies::put32(out, FIRST, &first);
-    copies::put32(out, SECOND, &second);
-    copies::put32(out, THIRD, &third);
+    copies::put(out, 0, &count);
+    copies::put(out, FIRST, &first);
+    copies::put(out, SECOND, &second);
+    copies::put(out, THIRD, &third);
 }
 
 // No pulses are left of an older window.
 fn clear(out: &mut [u32])
     ensures { out.new ≡ pasted out.old 0 (replicate found_count 0) }
 {
-    copies::put32(out, 0, &[0; FOUND]);
+    copies::put(out, 0, &[0; FOUND]);
 }
 
 pub fn fadc250_find(settings: &[u64], channel: u32, window: &[u16], out: &mut [u32]) -> u32

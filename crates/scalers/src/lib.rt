@@ -61,8 +61,8 @@ pub fn latch(s: Scalers) -> Scalers
     let counts = s.counts;
     let behind = [s.timer, s.triggers];
     let mut latched = [0u32; LATCHED];
-    copies::put32(&mut latched, 0, &counts);
-    copies::put32(&mut latched, CHANNELS, &behind);
+    copies::put(&mut latched, 0, &counts);
+    copies::put(&mut latched, CHANNELS, &behind);
     let mut copied = s;
     copied.latched = latched;
     copied

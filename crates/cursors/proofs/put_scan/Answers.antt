@@ -4,4 +4,4 @@ use Rattle.cursors.proofs.put_scan.Goals as goal
 
 pub returns : goal.returns
 returns c =
-    scan_stored_lem c.args.numbers.now c.args.scan c.cursor_of-cursor.ensures c.put32.ensures
+    scan_stored_lem c.args.numbers.now c.args.scan c.cursor_of-cursor.ensures c.put.ensures

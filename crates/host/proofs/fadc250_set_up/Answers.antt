@@ -15,4 +15,4 @@ pub returns-in-Ok : goal.returns-in-Ok
 returns-in-Ok c = set_up_face _ _ c.settings_or_none.ensures c.in-Ok.ensures refl c.if-state-ne-STATE.false c.put_state.ensures
 
 pub returns-in-Err : goal.returns-in-Err
-returns-in-Err c = set_up_refused _ _ c.settings_or_none.ensures c.in-Err.ensures c.if-state-ne-STATE.false (number_some c.in-Err.refusal) c.put64.ensures c.number.ensures
+returns-in-Err c = set_up_refused _ _ c.settings_or_none.ensures c.in-Err.ensures c.if-state-ne-STATE.false (number_some c.in-Err.refusal) c.put.ensures c.number.ensures

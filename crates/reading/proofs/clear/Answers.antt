@@ -5,4 +5,4 @@ use Rattle.reading.proofs.clear.Goals as goal
 
 pub returns : goal.returns
 returns c =
-    fill_by c.args.out.now c.no_numbers-none.ensures c.put64.ensures (omega arith)
+    fill_by c.args.out.now c.no_numbers-none.ensures c.put.ensures (omega arith)

@@ -9,4 +9,4 @@ returns-then-out-lt-RECORD c = let out = c.args.out.now in (rw (room_short out c
 pub returns : goal.returns
 returns c =
     let out = c.args.out.now in
-    (rw (room_long out c.if-out-lt-RECORD.false), fill_by out c.end_numbers-end.ensures c.put64.ensures (omega arith))
+    (rw (room_long out c.if-out-lt-RECORD.false), fill_by out c.end_numbers-end.ensures c.put.ensures (omega arith))

@@ -9,4 +9,4 @@ returns-then-out-lt-RECORD c =
 
 pub returns : goal.returns
 returns c =
-    took_long c.args.numbers.now c.args.out.now c.args.x c.args.after c.if-out-lt-RECORD.false c.record_numbers-new.ensures c.put64.ensures (omega arith) c.put_scan.ensures
+    took_long c.args.numbers.now c.args.out.now c.args.x c.args.after c.if-out-lt-RECORD.false c.record_numbers-new.ensures c.put.ensures (omega arith) c.put_scan.ensures
