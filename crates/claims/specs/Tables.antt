@@ -10,8 +10,8 @@ use Rattle.refusals.specs.Refusal.{number_of, if_accepted}
 use Rattle.find.specs.Call.{find_table, find_number, FindSays}
 use Rattle.find.specs.declared.FindAnswer.{FindAnswer}
 use Rattle.scan.specs.declared.Scan.{Scan}
-use Rattle.reader.specs.declared.Step.{Step}
-use Rattle.reader.specs.declared.Judged.{Judged}
+use Rattle.reader.specs.Step.{Step}
+use Rattle.reader.specs.Judged.{Judged}
 use Rattle.reader.specs.Reader.{end_number}
 use Rattle.meaning.specs.Meaning.{meaning_at, is_end}
 use Rattle.questions.specs.Questions.{refusals, refusal_of}

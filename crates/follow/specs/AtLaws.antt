@@ -6,8 +6,8 @@ use Rattle.scan.specs.After.{onward}
 use Rattle.reader.specs.Reader.{step_at, judge_at}
 use Rattle.reader.specs.RunLaws.{cons_at}
 use Rattle.scan.specs.declared.Scan.{Scan}
-use Rattle.reader.specs.declared.Step.{Step}
-use Rattle.reader.specs.declared.Judged.{Judged}
+use Rattle.reader.specs.Step.{Step}
+use Rattle.reader.specs.Judged.{Judged}
 use Rattle.follow.specs.Follow.{on_high, high_from, on_filler, fill_from}
 
 module _ (words : List ℕ) (i : ℕ) (t : Scan) (h : i < length words) where

@@ -5,10 +5,10 @@ use Rattle.items.specs.declared.Item.TheVariants as I
 use Rattle.scan.specs.After.{onward}
 use Rattle.reader.specs.Reader.{step_at, judge_at}
 use Rattle.scan.specs.declared.Scan.{Scan}
-use Rattle.reader.specs.declared.Step.{Step}
-use Rattle.reader.specs.declared.Step.TheVariants as S
-use Rattle.reader.specs.declared.Judged.{Judged}
-use Rattle.reader.specs.declared.Judged.TheVariants as J
+use Rattle.reader.specs.Step.{Step}
+use Rattle.reader.specs.Step as S
+use Rattle.reader.specs.Judged.{Judged}
+use Rattle.reader.specs.Judged as J
 use Rattle.follow.specs.declared.High.{High}
 use Rattle.follow.specs.declared.High.TheVariants as H
 use Rattle.follow.specs.declared.Fill.{Fill}

@@ -7,7 +7,7 @@ use Rattle.scan.specs.After.{onward}
 use Rattle.reader.specs.Reader.{step_at}
 use Rattle.reader.specs.RunLaws.{cons_at}
 use Rattle.scan.specs.declared.Scan.{Scan}
-use Rattle.reader.specs.declared.Step.{Step}
+use Rattle.reader.specs.Step.{Step}
 use Rattle.rawitems.specs.declared.Pairing.TheVariants as G
 use Rattle.rawitems.specs.Pairs.{pair_due, on_pair, pairs_from}
 

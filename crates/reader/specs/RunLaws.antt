@@ -6,10 +6,10 @@ use Rattle.items.specs.declared.Item.{Item}
 use Rattle.scan.specs.declared.Scan.{Scan}
 use Rattle.meaning.specs.Meaning.{unfinished}
 use Rattle.questions.specs.Questions.{at_limit}
-use Rattle.reader.specs.declared.Judged.{Judged}
-use Rattle.reader.specs.declared.Judged.TheVariants as J
-use Rattle.reader.specs.declared.Step.{Step}
-use Rattle.reader.specs.declared.Step.TheVariants as S
+use Rattle.reader.specs.Judged.{Judged}
+use Rattle.reader.specs.Judged as J
+use Rattle.reader.specs.Step.{Step}
+use Rattle.reader.specs.Step as S
 use Rattle.reader.specs.Reader.{Reading, then, step_at, with_item, judge_at, Whole, Broken, end_of, end_number, out_of, on_judged, read_from, on_step, check_from}
 use Rattle.reader.specs.ReaderLaws.{refused}
 

@@ -1,7 +1,7 @@
 -- `follow::fill_from` meets its contract.
 use Rattle.std.proofs.Common.{◌+◌, ◌≡◌, refl, sym, ap, ◌∙◌, arith, drop, drop_of_length-le}
 use Rattle.scan.specs.After.{onward}
-use Rattle.reader.specs.declared.Step.{Step}
+use Rattle.reader.specs.Step.{Step}
 use Rattle.follow.specs.Follow.{on_filler, fill_from}
 use Rattle.follow.specs.AtLaws.{fill_at}
 use Rattle.follow.proofs.fill_from.Goals as goal

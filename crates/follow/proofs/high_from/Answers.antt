@@ -1,6 +1,6 @@
 -- `follow::high_from` meets its contract.
 use Rattle.std.proofs.Common.{◌≡◌, sym, ap, ◌∙◌, arith, drop, drop_of_length-le}
-use Rattle.reader.specs.declared.Judged.{Judged}
+use Rattle.reader.specs.Judged.{Judged}
 use Rattle.follow.specs.Follow.{on_high, high_from}
 use Rattle.follow.specs.AtLaws.{high_at}
 use Rattle.follow.proofs.high_from.Goals as goal

@@ -1,7 +1,7 @@
 -- `rawitems::pairs_from` meets its contract.
 use Rattle.std.proofs.Common.{◌+◌, ◌≡◌, refl, sym, ap, ◌∙◌, arith, drop, drop_of_length-le}
 use Rattle.scan.specs.After.{onward}
-use Rattle.reader.specs.declared.Step.{Step}
+use Rattle.reader.specs.Step.{Step}
 use Rattle.reader.proofs.Via.{via}
 use Rattle.rawitems.specs.Pairs.{pair_due, on_pair, pairs_from}
 use Rattle.rawitems.specs.AtLaws.{pairs_at_lem, pairs_stop}
