@@ -75,3 +75,12 @@ end_by s = go (at_limit s) (unfinished s)
     go true b = refl
     go false true = refl
     go false false = refl
+
+-- no block ends before its trailer
+pub unfinished_end : (s : Scan) → unfinished s ≡ true → end_number s ≡ 0 → ⊥
+unfolding end_number first_of
+unfinished_end s h = rw h (go (at_limit s))
+  where
+    go : (a : Bool) → ◌≡◌ {A = ℕ} (cond a 14 11) 0 → ⊥
+    go true e = absurd (omega arith)
+    go false e = absurd (omega arith)

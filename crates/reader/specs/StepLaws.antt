@@ -12,7 +12,7 @@ use Rattle.reader.specs.declared.Refused.{Refused}
 use Rattle.reader.specs.Step.{step_of}
 use Rattle.reader.specs.Judged.{judged_of}
 
-refused_inj : (a b : Refused) → number_of a.refusal ≡ number_of b.refusal → a.place ≡ b.place → a ≡ b
+pub refused_inj : (a b : Refused) → number_of a.refusal ≡ number_of b.refusal → a.place ≡ b.place → a ≡ b
 refused_inj a b e f = λ i. record { refusal = number_inj a.refusal b.refusal e i; place = f i }
 
 pub step_inj : (a b : Result (Option (Form × Scan)) Refused) → step_of a ≡ step_of b → a ≡ b

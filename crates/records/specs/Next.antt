@@ -10,8 +10,8 @@ use Rattle.scan.specs.declared.Scan.{Scan}
 use Rattle.reader.specs.Judged.{Judged}
 use Rattle.reader.specs.Judged as J
 use Rattle.rawitems.specs.declared.Pairs.{Pairs}
-use Rattle.rawitems.specs.declared.Pairing.{Pairing}
-use Rattle.rawitems.specs.declared.Pairing.TheVariants as G
+use Rattle.rawitems.specs.Pairing.{Pairing}
+use Rattle.rawitems.specs.Pairing as G
 use Rattle.rawitems.specs.Pairs.{pairs_from}
 use Rattle.follow.specs.declared.High.{High}
 use Rattle.follow.specs.declared.High.TheVariants as H

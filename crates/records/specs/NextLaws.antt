@@ -35,8 +35,8 @@ use Rattle.reader.specs.Step as S
 use Rattle.reader.specs.Judged.{Judged}
 use Rattle.reader.specs.Judged as J
 use Rattle.rawitems.specs.declared.Pairs.{Pairs}
-use Rattle.rawitems.specs.declared.Pairing.{Pairing}
-use Rattle.rawitems.specs.declared.Pairing.TheVariants as G
+use Rattle.rawitems.specs.Pairing.{Pairing}
+use Rattle.rawitems.specs.Pairing as G
 use Rattle.rawitems.specs.Pairs.{due_by, pair_due, on_pair, pairs_from}
 use Rattle.follow.specs.declared.Fill.{Fill}
 use Rattle.follow.specs.Follow.{high_of, on_high, high_from, on_filler, fill_from}
