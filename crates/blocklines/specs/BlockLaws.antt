@@ -8,10 +8,10 @@ use Rattle.fields.specs.Bytes.{words_of_bytes}
 use Rattle.fields.proofs.BytesLaws.{words_none}
 use Rattle.items.specs.declared.Item.{Item}
 use Rattle.scan.specs.declared.Scan.{Scan}
-use Rattle.reader.specs.declared.Step.{Step}
-use Rattle.reader.specs.declared.Step.TheVariants as S
-use Rattle.reader.specs.declared.Judged.{Judged}
-use Rattle.reader.specs.declared.Judged.TheVariants as J
+use Rattle.reader.specs.Step.{Step}
+use Rattle.reader.specs.Step as S
+use Rattle.reader.specs.Judged.{Judged}
+use Rattle.reader.specs.Judged as J
 use Rattle.scan.specs.After.{start_of}
 use Rattle.reader.specs.Reader.{step_at, with_item, judge_at, Out, end_number, out_of, Reading, then, just, on_judged, read_from}
 use Rattle.reader.specs.ReaderLaws.{ended}

@@ -2,8 +2,8 @@
 use Rattle.std.specs.Prelude.{ℕ, List}
 use Rattle.fields.specs.Bytes.{words_of_bytes}
 use Rattle.scan.specs.declared.Scan.{Scan}
-use Rattle.reader.specs.declared.Judged.{Judged}
-use Rattle.reader.specs.declared.Judged.TheVariants as J
+use Rattle.reader.specs.Judged.{Judged}
+use Rattle.reader.specs.Judged as J
 use Rattle.reader.specs.Reader.{read_from}
 use Rattle.written.specs.Page.{Page, put}
 use Rattle.written.specs.Line.{text_of}

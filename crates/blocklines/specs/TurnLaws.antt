@@ -7,8 +7,8 @@ use Rattle.fields.specs.Bytes.{words_of_bytes}
 use Rattle.items.specs.declared.Item.{Item}
 use Rattle.items.specs.declared.Item.TheVariants as I
 use Rattle.scan.specs.declared.Scan.{Scan}
-use Rattle.reader.specs.declared.Judged.{Judged}
-use Rattle.reader.specs.declared.Judged.TheVariants as J
+use Rattle.reader.specs.Judged.{Judged}
+use Rattle.reader.specs.Judged as J
 use Rattle.reader.specs.Reader.{judge_at, Reading, just, out_of, on_judged, read_from}
 use Rattle.reader.specs.RunLaws.{refused_some}
 use Rattle.written.specs.Page.{Page, put}

@@ -6,7 +6,7 @@ use Rattle.reader.specs.Reader.{Out, Whole, Broken, out_of, on_step, step_at, ch
 use Rattle.scan.specs.After.{start_of}
 use Rattle.reader.specs.RunLaws.{cons_at, check_at}
 use Rattle.scan.specs.declared.Scan.{Scan}
-use Rattle.reader.specs.declared.Step.{Step}
+use Rattle.reader.specs.Step.{Step}
 use Rattle.bytecheck.specs.Check.{number_of_out, check_number}
 
 -- the run from the word of number k, of which t was said

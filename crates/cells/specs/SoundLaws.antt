@@ -15,13 +15,13 @@ use Rattle.scan.specs.declared.Stage.{Stage}
 use Rattle.scan.specs.declared.Stage.TheVariants as P
 use Rattle.scan.specs.declared.Scan.{Scan}
 use Rattle.questions.specs.Questions.{time_by}
-use Rattle.reader.specs.declared.Step.{Step}
-use Rattle.reader.specs.declared.Step.TheVariants as S
+use Rattle.reader.specs.Step.{Step}
+use Rattle.reader.specs.Step as S
 use Rattle.reader.specs.Reader.{step_at, with_item, judge_at, end_number}
 use Rattle.reader.specs.ReaderLaws.{accepted}
 use Rattle.rawitems.specs.declared.Pairs.{Pairs}
-use Rattle.rawitems.specs.declared.Pairing.{Pairing}
-use Rattle.rawitems.specs.declared.Pairing.TheVariants as G
+use Rattle.rawitems.specs.Pairing.{Pairing}
+use Rattle.rawitems.specs.Pairing as G
 use Rattle.rawitems.specs.Pairs.{pairs_from}
 use Rattle.follow.specs.Follow.{on_high, high_from}
 use Rattle.records.specs.declared.answer.Record.{Record}

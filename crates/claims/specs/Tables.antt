@@ -12,8 +12,8 @@ use Rattle.std.specs.declared.result.Result.{Result}
 use Rattle.refusals.specs.declared.Refusal.{Refusal}
 use Rattle.finder.specs.declared.Pulses.{Pulses}
 use Rattle.scan.specs.declared.Scan.{Scan}
-use Rattle.reader.specs.declared.Step.{Step}
-use Rattle.reader.specs.declared.Judged.{Judged}
+use Rattle.reader.specs.Step.{Step}
+use Rattle.reader.specs.Judged.{Judged}
 use Rattle.reader.specs.Reader.{end_number}
 use Rattle.meaning.specs.Meaning.{meaning_at, is_end}
 use Rattle.questions.specs.Questions.{refusals, refusal_of}

@@ -9,8 +9,8 @@ use Rattle.framing.specs.declared.scaler.ScalerWord.{ScalerWord}
 use Rattle.items.specs.declared.Item.{Item}
 use Rattle.items.specs.declared.Item.TheVariants as I
 use Rattle.scan.specs.declared.Scan.{Scan}
-use Rattle.reader.specs.declared.Judged.{Judged}
-use Rattle.reader.specs.declared.Judged.TheVariants as J
+use Rattle.reader.specs.Judged.{Judged}
+use Rattle.reader.specs.Judged as J
 use Rattle.reader.specs.Reader.{judge_at, Reading, on_judged, read_from}
 use Rattle.written.specs.Page.{Page, put}
 use Rattle.written.specs.PageLaws.{put_nil, put_append}

@@ -1,47 +1,49 @@
 -- What follows a record's first word: document 01, "Reading". Assumes nothing.
-use Rattle.std.specs.Prelude.{ℕ, List, [], ◌∷◌}
+use Rattle.std.specs.Prelude.{ℕ, Option, Some, None, List, [], ◌∷◌}
+use Rattle.framing.specs.declared.trigger_time_high.TriggerTimeHigh.{TriggerTimeHigh}
 use Rattle.items.specs.declared.Item.{Item}
 use Rattle.items.specs.declared.Item.TheVariants as I
 use Rattle.scan.specs.After.{onward}
 use Rattle.reader.specs.Reader.{step_at, judge_at}
 use Rattle.scan.specs.declared.Scan.{Scan}
-use Rattle.reader.specs.declared.Step.{Step}
-use Rattle.reader.specs.declared.Step.TheVariants as S
-use Rattle.reader.specs.declared.Judged.{Judged}
-use Rattle.reader.specs.declared.Judged.TheVariants as J
-use Rattle.follow.specs.declared.High.{High}
-use Rattle.follow.specs.declared.High.TheVariants as H
+use Rattle.reader.specs.Step.{Step}
+use Rattle.reader.specs.Step as S
+use Rattle.reader.specs.Judged.{Judged}
+use Rattle.reader.specs.Judged as J
 use Rattle.follow.specs.declared.Fill.{Fill}
 
 -- ---- the second time word
 
+abbrev pub High : Type 0
+High = Option (TriggerTimeHigh × Scan)
+
 -- the second time word and the scan behind it, if this item is one
 abbrev pub high_of : Item → Scan → High
-high_of (I.Block x) u = H.Nothing
-high_of (I.Parameters x) u = H.Nothing
-high_of (I.Trailer x) u = H.Nothing
-high_of (I.Event x) u = H.Nothing
-high_of (I.Clock x) u = H.Nothing
-high_of (I.ClockHigh x) u = H.Word x u
-high_of (I.Window x) u = H.Nothing
-high_of (I.Raw x) u = H.Nothing
-high_of (I.Pair x) u = H.Nothing
-high_of (I.Integral x) u = H.Nothing
-high_of (I.Time x) u = H.Nothing
-high_of (I.Pedestal x) u = H.Nothing
-high_of (I.Empty x) u = H.Nothing
-high_of (I.Filler x) u = H.Nothing
-high_of (I.Scalers x) u = H.Nothing
-high_of (I.Scaler x) u = H.Nothing
+high_of (I.Block x) u = None
+high_of (I.Parameters x) u = None
+high_of (I.Trailer x) u = None
+high_of (I.Event x) u = None
+high_of (I.Clock x) u = None
+high_of (I.ClockHigh x) u = Some (x, u)
+high_of (I.Window x) u = None
+high_of (I.Raw x) u = None
+high_of (I.Pair x) u = None
+high_of (I.Integral x) u = None
+high_of (I.Time x) u = None
+high_of (I.Pedestal x) u = None
+high_of (I.Empty x) u = None
+high_of (I.Filler x) u = None
+high_of (I.Scalers x) u = None
+high_of (I.Scaler x) u = None
 
 abbrev pub on_high : Judged → High
 on_high (J.Took x u) = high_of x u
-on_high (J.Refused n place) = H.Nothing
-on_high J.Ended = H.Nothing
+on_high (J.Refused n place) = None
+on_high J.Ended = None
 
 -- the same of the word that follows
 unfoldable pub high_from : Scan → List ℕ → High
-high_from t [] = H.Nothing
+high_from t [] = None
 high_from t (word ∷ words) = on_high (judge_at t word)
 
 -- ---- the fillers

@@ -1,20 +1,12 @@
 // What follows a record's first word: the second time word, the other fillers.
 #![tactic(auto)]
 
-ghost use Rattle.std.specs.Prelude.{◌≡◌, drop};
+ghost use Rattle.std.specs.Prelude.{◌≡◌};
 ghost use Rattle.follow.specs.Follow.{high_of, high_from, fill_from};
 
 use framing::trigger_time_high::TriggerTimeHigh;
 use items::Item;
-use reader::{Judged, Step};
 use scan::Scan;
-
-// The second time word and the scan behind it, if one follows.
-#[derive(Clone, Copy)]
-pub enum High {
-    Nothing,
-    Word(TriggerTimeHigh, Scan),
-}
 
 // How many fillers, and the scan behind them.
 #[derive(Clone, Copy)]
@@ -23,62 +15,44 @@ pub struct Fill {
     pub scan: Scan,
 }
 
-fn high_of(item: Item, after: Scan) -> High
+fn high_of(item: Item, after: Scan) -> Option<(TriggerTimeHigh, Scan)>
     ensures { result ≡ high_of item after }
 {
-    if let Item::ClockHigh(high) = item {
-        High::Word(high, after)
-    } else {
-        High::Nothing
+    match item {
+        Item::ClockHigh(high) => Some((high, after)),
+        _ => None,
     }
 }
 
-pub fn high_from(words: &[u32], from: usize, scan: Scan) -> High
-    ensures { result ≡ high_from scan (drop from words.now) }
+// The second time word and the scan behind it, if one stands first in the words.
+#[tactic(auto, using(crate::specs::AtLaws::high_first))]
+pub fn high_from(words: &[u32], scan: Scan) -> Option<(TriggerTimeHigh, Scan)>
+    ensures { result ≡ high_from scan words.now }
 {
-    if from < words.len() {
-        let judged = reader::judge_at(scan, words[from]);
-        match judged {
-            Judged::Took(item, after) => high_of(item, after),
-            Judged::Refused(_, _) => High::Nothing,
-            Judged::Ended => High::Nothing,
-        }
-    } else {
-        High::Nothing
+    let [word, ..] = words else {
+        return None;
+    };
+    match reader::judge_at(scan, *word) {
+        Ok(Some((item, after))) => high_of(item, after),
+        Ok(None) | Err(_) => None,
     }
 }
 
 // A first filler was read.
-pub fn fill_from(words: &[u32], from: usize, scan: Scan) -> Fill
-    ensures { result ≡ fill_from 1 scan (drop from words.now) }
+#[tactic(auto, using(crate::specs::AtLaws::fill_next))]
+pub fn fill_from(words: &[u32], scan: Scan) -> Fill
+    ensures { result ≡ fill_from 1 scan words.now }
 {
-    let mut t = scan;
-    let mut count: u32 = 1;
-    let mut at = from;
-    while at < words.len() {
-        let step = reader::step_at(t, words[at]);
-        match step {
-            Step::Went(_, after) => {
-                t = after;
-                count = scan::after::next_place(count);
-                at += 1;
-            }
-            Step::Refused(_, _) => {
-                return Fill {
-                    count: count,
-                    scan: t,
-                };
-            }
-            Step::Ended => {
-                return Fill {
-                    count: count,
-                    scan: t,
-                };
-            }
-        }
+    let mut fill = Fill {
+        count: 1,
+        scan: scan,
+    };
+    for word in words {
+        let Ok(Some((_, after))) = reader::step_at(fill.scan, *word) else {
+            return fill;
+        };
+        fill.count = scan::after::next_place(fill.count);
+        fill.scan = after;
     }
-    Fill {
-        count: count,
-        scan: t,
-    }
+    fill
 }

@@ -11,7 +11,7 @@ use Rattle.scan.specs.declared.Stage.{Stage}
 use Rattle.scan.specs.declared.Stage.TheVariants as P
 use Rattle.scan.specs.After.{onward}
 use Rattle.questions.specs.Questions.{at_limit}
-use Rattle.reader.specs.declared.Judged.TheVariants as J
+use Rattle.reader.specs.Judged as J
 use Rattle.reader.specs.Reader.{judge_at}
 use Rattle.written.specs.Page.{Page, put}
 use Rattle.written.specs.Line.{Line, line_text}

@@ -21,8 +21,8 @@ use Rattle.meaning.specs.declared.Meaning.TheVariants as M
 use Rattle.meaning.specs.Meaning.{meaning_at, meaning_in, more_by, allowed_by, other_by}
 use Rattle.meaning.specs.MeaningLaws.{meaning_more, meaning_type}
 use Rattle.questions.specs.Questions.{at_limit, refusals}
-use Rattle.reader.specs.declared.Judged.TheVariants as J
-use Rattle.reader.specs.declared.Step.TheVariants as S
+use Rattle.reader.specs.Judged as J
+use Rattle.reader.specs.Step as S
 use Rattle.reader.specs.Reader.{step_at, judge_at}
 use Rattle.reader.specs.ReaderLaws.{step_form, judge_by}
 use Rattle.entries.specs.Entries.{record_lines, filler_in}

@@ -16,8 +16,8 @@ use Rattle.meaning.specs.declared.Meaning.TheVariants as M
 use Rattle.meaning.specs.Meaning.{unfinished}
 use Rattle.meaning.specs.MeaningLaws.{meaning_alike}
 use Rattle.questions.specs.Questions.{at_limit, item_wrong}
-use Rattle.reader.specs.declared.Step.{Step}
-use Rattle.reader.specs.declared.Step.TheVariants as S
+use Rattle.reader.specs.Step.{Step}
+use Rattle.reader.specs.Step as S
 use Rattle.reader.specs.Reader.{step_at, with_item, judge_at, Whole, Broken, end_of, on_judged, read_from}
 use Rattle.reader.specs.ReaderLaws.{Accepted, accepted, ended}
 use Rattle.layout.specs.NothingLost.{form_back}

@@ -16,10 +16,10 @@ use Rattle.scan.specs.After.{onward, paired_by, filled_by, scaled_by, stage_afte
 use Rattle.meaning.specs.declared.Meaning.TheVariants as M
 use Rattle.meaning.specs.Meaning.{meaning_in, meaning_at, is_end, unfinished_by, unfinished}
 use Rattle.questions.specs.Questions.{at_limit}
-use Rattle.reader.specs.declared.Step.{Step}
-use Rattle.reader.specs.declared.Step.TheVariants as S
-use Rattle.reader.specs.declared.Judged.{Judged}
-use Rattle.reader.specs.declared.Judged.TheVariants as J
+use Rattle.reader.specs.Step.{Step}
+use Rattle.reader.specs.Step as S
+use Rattle.reader.specs.Judged.{Judged}
+use Rattle.reader.specs.Judged as J
 use Rattle.reader.specs.Reader.{step_at, with_item, judge_at, Out, Whole, Broken, end_of, then, on_judged, read_from}
 use Rattle.reader.specs.ReaderLaws.{Accepted, accepted, refused}
 

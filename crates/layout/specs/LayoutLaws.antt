@@ -21,9 +21,9 @@ use Rattle.meaning.specs.declared.Meaning.TheVariants as M
 use Rattle.meaning.specs.Meaning.{meaning_at}
 use Rattle.meaning.specs.MeaningLaws.{meaning_alike}
 use Rattle.questions.specs.Questions.{at_limit, refusal_of}
-use Rattle.reader.specs.declared.Step.TheVariants as S
+use Rattle.reader.specs.Step as S
 use Rattle.reader.specs.Reader.{then, Whole, step_at, end_of, read_from}
-use Rattle.reader.specs.declared.Judged.TheVariants as J
+use Rattle.reader.specs.Judged as J
 use Rattle.reader.specs.ReaderLaws.{judge_by}
 use Rattle.reader.specs.RunLaws.{read_at}
 use Rattle.layout.specs.FirstWrong.{records_before}

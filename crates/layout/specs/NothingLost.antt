@@ -14,8 +14,8 @@ use Rattle.items.specs.declared.Item.{Item}
 use Rattle.scan.specs.declared.Scan.{Scan}
 use Rattle.meaning.specs.MeaningLaws.{meaning_is}
 use Rattle.questions.specs.Questions.{item_wrong}
-use Rattle.reader.specs.declared.Step.{Step}
-use Rattle.reader.specs.declared.Step.TheVariants as S
+use Rattle.reader.specs.Step.{Step}
+use Rattle.reader.specs.Step as S
 use Rattle.reader.specs.Reader.{step_at, with_item, judge_at, on_judged, read_from}
 use Rattle.reader.specs.ReaderLaws.{Accepted, accepted}
 

@@ -14,14 +14,14 @@ use Rattle.items.specs.declared.Item.{Item}
 use Rattle.scan.specs.declared.Scan.{Scan}
 use Rattle.meaning.specs.declared.Meaning.{Meaning}
 use Rattle.meaning.specs.declared.Meaning.TheVariants as M
-use Rattle.reader.specs.declared.Judged.{Judged}
-use Rattle.reader.specs.declared.Judged.TheVariants as J
+use Rattle.reader.specs.Judged.{Judged}
+use Rattle.reader.specs.Judged as J
 use Rattle.reader.specs.RunLaws.{items_le}
 use Rattle.scan.specs.After.{onward, after, start_of}
 use Rattle.meaning.specs.Meaning.{meaning_at, is_unallowed, unfinished}
 use Rattle.questions.specs.Questions.{at_limit, slot_wrong, item_wrong, count_wrong, of_form, refusal_of}
 use Rattle.reader.specs.Reader.{step_by, step_at, with_item, judge_at, Out, Whole, Broken, end_of, Reading, just, on_judged, read_from}
-use Rattle.reader.specs.declared.Step.TheVariants as S
+use Rattle.reader.specs.Step as S
 use Rattle.fields.proofs.WordLaws.{field_lt}
 use Rattle.fields.specs.Bytes.{words_of_bytes}
 use Rattle.fields.proofs.BytesLaws.{words_le}

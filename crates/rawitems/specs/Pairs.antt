@@ -6,11 +6,11 @@ use Rattle.reader.specs.Reader.{step_at, end_number}
 use Rattle.scan.specs.declared.Stage.{Stage}
 use Rattle.scan.specs.declared.Stage.TheVariants as P
 use Rattle.scan.specs.declared.Scan.{Scan}
-use Rattle.reader.specs.declared.Step.{Step}
-use Rattle.reader.specs.declared.Step.TheVariants as S
+use Rattle.reader.specs.Step.{Step}
+use Rattle.reader.specs.Step as S
 use Rattle.rawitems.specs.declared.Pairs.{Pairs}
-use Rattle.rawitems.specs.declared.Pairing.{Pairing}
-use Rattle.rawitems.specs.declared.Pairing.TheVariants as G
+use Rattle.rawitems.specs.Pairing.{Pairing}
+use Rattle.rawitems.specs.Pairing as G
 
 abbrev pub due_by : Stage → Bool → Bool
 due_by P.Start more = false

@@ -11,10 +11,10 @@ use Rattle.meaning.specs.declared.Meaning.{Meaning}
 use Rattle.meaning.specs.declared.Meaning.TheVariants as M
 use Rattle.meaning.specs.Meaning.{meaning_at, is_end}
 use Rattle.questions.specs.Questions.{refusal_of}
-use Rattle.reader.specs.declared.Step.{Step}
-use Rattle.reader.specs.declared.Step.TheVariants as S
-use Rattle.reader.specs.declared.Judged.{Judged}
-use Rattle.reader.specs.declared.Judged.TheVariants as J
+use Rattle.reader.specs.Step.{Step}
+use Rattle.reader.specs.Step as S
+use Rattle.reader.specs.Judged.{Judged}
+use Rattle.reader.specs.Judged as J
 use Rattle.reader.specs.Reader.{step_at, judge_at}
 
 -- ---- a record's type and fields

@@ -9,9 +9,9 @@ use Rattle.meaning.specs.declared.Meaning.{Meaning}
 use Rattle.meaning.specs.declared.Meaning.TheVariants as M
 use Rattle.meaning.specs.Meaning.{meaning_at, is_end}
 use Rattle.questions.specs.Questions.{refusal_of}
-use Rattle.reader.specs.declared.Step.{Step}
-use Rattle.reader.specs.declared.Step.TheVariants as S
-use Rattle.reader.specs.declared.Judged.{Judged}
+use Rattle.reader.specs.Step.{Step}
+use Rattle.reader.specs.Step as S
+use Rattle.reader.specs.Judged.{Judged}
 use Rattle.reader.specs.Reader.{step_by, step_at, with_item, judge_at}
 use Rattle.reader.specs.Answers.{row_type, item_values, step_number, step_values, judged_number, judged_values, number_at, values_by, values_at, StepSays, JudgedSays}
 

@@ -12,8 +12,8 @@ use Rattle.meaning.specs.declared.Meaning.TheVariants as M
 use Rattle.meaning.specs.Meaning.{meaning_at, is_end, unfinished}
 use Rattle.meaning.specs.MeaningLaws.{no_end, end_tail}
 use Rattle.questions.specs.Questions.{at_limit, refusals, refusal_of}
-use Rattle.reader.specs.declared.Step.{Step}
-use Rattle.reader.specs.declared.Step.TheVariants as S
+use Rattle.reader.specs.Step.{Step}
+use Rattle.reader.specs.Step as S
 use Rattle.reader.specs.Reader.{step_by, step_at, with_item, judge_at}
 
 -- ---- one word, question by question

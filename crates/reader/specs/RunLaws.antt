@@ -6,10 +6,10 @@ use Rattle.items.specs.declared.Item.{Item}
 use Rattle.scan.specs.declared.Scan.{Scan}
 use Rattle.meaning.specs.Meaning.{unfinished}
 use Rattle.questions.specs.Questions.{at_limit}
-use Rattle.reader.specs.declared.Judged.{Judged}
-use Rattle.reader.specs.declared.Judged.TheVariants as J
-use Rattle.reader.specs.declared.Step.{Step}
-use Rattle.reader.specs.declared.Step.TheVariants as S
+use Rattle.reader.specs.Judged.{Judged}
+use Rattle.reader.specs.Judged as J
+use Rattle.reader.specs.Step.{Step}
+use Rattle.reader.specs.Step as S
 use Rattle.reader.specs.Reader.{Reading, then, step_at, with_item, judge_at, Whole, Broken, end_of, end_number, out_of, on_judged, read_from, on_step, check_from}
 use Rattle.reader.specs.ReaderLaws.{refused}
 
@@ -75,3 +75,12 @@ end_by s = go (at_limit s) (unfinished s)
     go true b = refl
     go false true = refl
     go false false = refl
+
+-- no block ends before its trailer
+pub unfinished_end : (s : Scan) → unfinished s ≡ true → end_number s ≡ 0 → ⊥
+unfolding end_number first_of
+unfinished_end s h = rw h (go (at_limit s))
+  where
+    go : (a : Bool) → ◌≡◌ {A = ℕ} (cond a 14 11) 0 → ⊥
+    go true e = absurd (omega arith)
+    go false e = absurd (omega arith)

@@ -3,7 +3,10 @@
 
 ghost use Rattle.std.specs.Prelude.{◌≡◌, drop};
 ghost use Rattle.ground.specs.Tests.{first_of};
+ghost use Rattle.refusals.specs.Refusal.{told};
 ghost use Rattle.questions.specs.Questions.{refusals};
+ghost use Rattle.reader.specs.Step.{step_of};
+ghost use Rattle.reader.specs.Judged.{judged_of};
 ghost use Rattle.reader.specs.Reader.{step_by, end_number};
 ghost use Rattle.reader.specs.Answers.{StepSays, JudgedSays};
 
@@ -14,76 +17,68 @@ use scan::{Scan, Stage};
 
 mod window;
 
-// What one word does: it is of that form and the scan goes on, it is refused with a number at its place, or the block ends
-// before it.
+// Why a word is refused, and its place.
 #[derive(Clone, Copy)]
-pub enum Step {
-    Went(Form, Scan),
-    Refused(u32, u32),
-    Ended,
+pub struct Refused {
+    pub refusal: Refusal,
+    pub place: u32,
 }
 
-// The same with the word's record.
-#[derive(Clone, Copy)]
-pub enum Judged {
-    Took(Item, Scan),
-    Refused(u32, u32),
-    Ended,
+impl Refused {
+    // The word at the scan's place is refused.
+    pub fn at(scan: Scan, refusal: Refusal) -> Refused
+        ensures { result ≡ record { refusal = refusal; place = scan.place } }
+    {
+        Refused {
+            refusal: refusal,
+            place: scan.place,
+        }
+    }
 }
 
 // A word that may stand here: what is asked of its form, and the scan after.
-fn form_step(scan: Scan, form: Form, word: u32) -> Step
-    ensures { result ≡ step_by scan (Meaning.Form form) word (first_of (drop 2 (refusals scan (Meaning.Form form) word))) }
+fn form_step(scan: Scan, form: Form, word: u32) -> Result<Option<(Form, Scan)>, Refused>
+    ensures { step_of result ≡ step_by scan (Meaning.Form form) word (first_of (drop 2 (refusals scan (Meaning.Form form) word))) }
 {
-    let refusal = questions::refusal(scan, form, word);
-    if refusal == 0 {
-        Step::Went(form, scan::after::scan_after(scan, form, word))
-    } else {
-        Step::Refused(refusal, scan.place)
-    }
+    questions::refusal(scan, form, word).map_err(|refusal| Refused::at(scan, refusal))?;
+    Ok(Some((form, scan::after::scan_after(scan, form, word))))
 }
 
-// One word; no record is made.
-pub fn step_at(scan: Scan, word: u32) -> Step
-    ensures { StepSays scan word result }
+// One word; no record is made. Its form and the scan after it, or that the block ends before it.
+pub fn step_at(scan: Scan, word: u32) -> Result<Option<(Form, Scan)>, Refused>
+    ensures { StepSays scan word (step_of result) }
 {
     if questions::at_limit(scan) {
-        return Step::Refused(refusals::number(Refusal::Count), scan.place);
+        return Err(Refused::at(scan, Refusal::Count));
     }
-    let p = scan.stage;
-    if let Stage::Window(n, odd) = p {
+    if let Stage::Window(n, odd) = scan.stage {
         return window::window_step(scan, n, odd, word);
     }
-    let meaning = meaning::meaning_at(scan, word);
-    match meaning {
+    match meaning::meaning_at(scan, word) {
         Meaning::Form(form) => form_step(scan, form, word),
-        Meaning::Unallowed => Step::Refused(refusals::number(Refusal::Unallowed), scan.place),
-        Meaning::End => Step::Ended,
+        Meaning::Unallowed => Err(Refused::at(scan, Refusal::Unallowed)),
+        Meaning::End => Ok(None),
     }
 }
 
-// No word left: the number of the refusal, 0 where the block ends here.
-pub fn at_end(scan: Scan) -> u32
-    ensures { result ≡ end_number scan }
+// No word left: the block ends here, or is refused.
+#[tactic(auto, unfolding(crate::specs::Reader::end_number, ground::specs::Tests::first_of))]
+pub fn at_end(scan: Scan) -> Result<(), Refusal>
+    ensures { told result ≡ end_number scan }
 {
     if questions::at_limit(scan) {
-        return refusals::number(Refusal::Count);
+        return Err(Refusal::Count);
     }
     if meaning::is_unfinished(scan) {
-        refusals::number(Refusal::Missing)
-    } else {
-        0
+        return Err(Refusal::Missing);
     }
+    Ok(())
 }
 
 // One word with its record.
-pub fn judge_at(scan: Scan, word: u32) -> Judged
-    ensures { JudgedSays scan word result }
+pub fn judge_at(scan: Scan, word: u32) -> Result<Option<(Item, Scan)>, Refused>
+    ensures { JudgedSays scan word (judged_of result) }
 {
-    let step = step_at(scan, word);
-    match step {
-        Step::Went(form, after) => Judged::Took(Item::take_apart(form, word), after),
-        Step::Refused(number, place) => Judged::Refused(number, place),
-        Step::Ended => Judged::Ended,
-    }
+    let step = step_at(scan, word)?;
+    Ok(step.map(|(form, after)| (Item::take_apart(form, word), after)))
 }

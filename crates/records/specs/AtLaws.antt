@@ -5,7 +5,7 @@ use Rattle.std.proofs.Math.Path.{ap}
 use Rattle.reader.specs.Reader.{judge_at}
 use Rattle.reader.specs.RunLaws.{cons_at}
 use Rattle.scan.specs.declared.Scan.{Scan}
-use Rattle.reader.specs.declared.Judged.{Judged}
+use Rattle.reader.specs.Judged.{Judged}
 use Rattle.records.specs.Next.{from_judged, next_from}
 
 module _ (words : List ℕ) (i : ℕ) (t : Scan) (h : i < length words) where

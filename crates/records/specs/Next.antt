@@ -7,11 +7,11 @@ use Rattle.items.specs.declared.Item.{Item}
 use Rattle.items.specs.declared.Item.TheVariants as I
 use Rattle.reader.specs.Reader.{judge_at, end_number}
 use Rattle.scan.specs.declared.Scan.{Scan}
-use Rattle.reader.specs.declared.Judged.{Judged}
-use Rattle.reader.specs.declared.Judged.TheVariants as J
+use Rattle.reader.specs.Judged.{Judged}
+use Rattle.reader.specs.Judged as J
 use Rattle.rawitems.specs.declared.Pairs.{Pairs}
-use Rattle.rawitems.specs.declared.Pairing.{Pairing}
-use Rattle.rawitems.specs.declared.Pairing.TheVariants as G
+use Rattle.rawitems.specs.Pairing.{Pairing}
+use Rattle.rawitems.specs.Pairing as G
 use Rattle.rawitems.specs.Pairs.{pairs_from}
 use Rattle.follow.specs.declared.High.{High}
 use Rattle.follow.specs.declared.High.TheVariants as H

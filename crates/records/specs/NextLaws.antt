@@ -30,13 +30,13 @@ use Rattle.scan.specs.declared.Stage.TheVariants as P
 use Rattle.scan.specs.declared.Scan.{Scan}
 use Rattle.meaning.specs.declared.Meaning.{Meaning}
 use Rattle.meaning.specs.declared.Meaning.TheVariants as M
-use Rattle.reader.specs.declared.Step.{Step}
-use Rattle.reader.specs.declared.Step.TheVariants as S
-use Rattle.reader.specs.declared.Judged.{Judged}
-use Rattle.reader.specs.declared.Judged.TheVariants as J
+use Rattle.reader.specs.Step.{Step}
+use Rattle.reader.specs.Step as S
+use Rattle.reader.specs.Judged.{Judged}
+use Rattle.reader.specs.Judged as J
 use Rattle.rawitems.specs.declared.Pairs.{Pairs}
-use Rattle.rawitems.specs.declared.Pairing.{Pairing}
-use Rattle.rawitems.specs.declared.Pairing.TheVariants as G
+use Rattle.rawitems.specs.Pairing.{Pairing}
+use Rattle.rawitems.specs.Pairing as G
 use Rattle.rawitems.specs.Pairs.{due_by, pair_due, on_pair, pairs_from}
 use Rattle.follow.specs.declared.Fill.{Fill}
 use Rattle.follow.specs.Follow.{high_of, on_high, high_from, on_filler, fill_from}

@@ -29,7 +29,7 @@ use Rattle.questions.specs.Questions.{at_limit, refusals, refusal_of}
 use Rattle.reader.specs.Reader.{step_by, step_at, on_step, check_from}
 use Rattle.reader.specs.ReaderLaws.{step_form}
 use Rattle.reader.specs.RunLaws.{check_at}
-use Rattle.reader.specs.declared.Step.{Step}
+use Rattle.reader.specs.Step.{Step}
 use Rattle.raw.specs.Plain.{plain}
 use Rattle.raw.specs.PlainLaws.{plain_bits}
 use Rattle.stretches.specs.Stretches.{single, measure}

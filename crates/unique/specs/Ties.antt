@@ -21,8 +21,8 @@ use Rattle.counting.specs.Counting.{CountSays, LatchSays, ResetSays}
 use Rattle.scan.proofs as scan
 use Rattle.reader.proofs as reader
 use Rattle.scan.specs.declared.Scan.{Scan}
-use Rattle.reader.specs.declared.Step.{Step}
-use Rattle.reader.specs.declared.Judged.{Judged}
+use Rattle.reader.specs.Step.{Step}
+use Rattle.reader.specs.Judged.{Judged}
 use Rattle.scan.specs.After.{start_of}
 use Rattle.reader.specs.Reader.{end_number}
 use Rattle.reader.specs.Answers.{StepSays, JudgedSays}

@@ -4,7 +4,7 @@ use Rattle.reader.specs.Reader.{step_at, on_step, end_number, check_from}
 use Rattle.scan.specs.After.{start_of}
 use Rattle.reader.specs.RunLaws.{end_by}
 use Rattle.scan.specs.declared.Scan.{Scan}
-use Rattle.reader.specs.declared.Step.{Step}
+use Rattle.reader.specs.Step.{Step}
 use Rattle.stretches.specs.WordsLaws.{words_count}
 use Rattle.bytecheck.specs.CheckLaws.{run_at, out_number, checked}
 use Rattle.fields.specs.Bytes.{words_of_bytes}

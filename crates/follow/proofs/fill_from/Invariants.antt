@@ -1,10 +1,7 @@
 -- `follow::fill_from` meets its contract.
-use Rattle.std.proofs.Common.{◌-◌, ◌≡◌, length, drop}
+use Rattle.std.proofs.Common.{◌≡◌, drop}
 use Rattle.follow.specs.Follow.{fill_from}
 use Rattle.follow.proofs.fill_from.Given as goal
 
-abbrev pub invariant-loop-at : goal.invariant-loop-at
-invariant-loop-at l = fill_from l.initial.count l.initial.t (drop l.from l.words) ≡ fill_from l.count l.t (drop l.at l.words)
-
-abbrev pub decreases-loop-at : goal.decreases-loop-at
-decreases-loop-at l = length l.words - l.at
+abbrev pub invariant-loop-word : goal.invariant-loop-word
+invariant-loop-word l = fill_from 1 l.fn.scan l.words ≡ fill_from l.fill.count l.fill.scan (drop l.word-index l.words)

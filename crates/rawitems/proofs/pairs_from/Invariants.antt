@@ -1,10 +1,7 @@
 -- `rawitems::pairs_from` meets its contract.
-use Rattle.std.proofs.Common.{◌-◌, ◌≡◌, length, drop}
+use Rattle.std.proofs.Common.{◌≡◌, drop}
 use Rattle.rawitems.specs.Pairs.{pairs_from}
 use Rattle.rawitems.proofs.pairs_from.Given as goal
 
-abbrev pub invariant-loop-at : goal.invariant-loop-at
-invariant-loop-at l = pairs_from l.initial.t l.initial.count (drop l.from l.words) ≡ pairs_from l.t l.count (drop l.at l.words)
-
-abbrev pub decreases-loop-at : goal.decreases-loop-at
-decreases-loop-at l = length l.words - l.at
+abbrev pub invariant-loop-word : goal.invariant-loop-word
+invariant-loop-word l = pairs_from l.fn.scan 0 l.words ≡ pairs_from l.behind l.count (drop l.word-index l.words)

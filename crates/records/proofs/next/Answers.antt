@@ -1,6 +1,6 @@
 -- `records::next` meets its contract.
 use Rattle.std.proofs.Common.{◌+◌, ◌≡◌, sym, ap, ◌∙◌, arith, drop, drop_of_length-le}
-use Rattle.reader.specs.declared.Judged.{Judged}
+use Rattle.reader.specs.Judged.{Judged}
 use Rattle.records.specs.Next.{from_judged, next_from, next_at}
 use Rattle.records.specs.AtLaws.{next_at_lem}
 use Rattle.records.specs.AnswersLaws.{next_answers}

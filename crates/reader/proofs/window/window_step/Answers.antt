@@ -20,13 +20,13 @@ bits c = c.pair_bits_wrong.ensures ∙ rw (c.window_flag_wrong-flag.ensures, c.t
 pub returns-then-not-is : goal.returns-then-not-is
 returns-then-not-is c =
     let h = c.requires in
-    rw c.number.ensures (sym (step_unallowed _ _ (sym (window_other _ _ h.0 (via c.is.ensures (c.if-not-is.true)))) h.1))
+    rw c.at.ensures (sym (step_unallowed _ _ (sym (window_other _ _ h.0 (via c.is.ensures c.if-not-is.true))) h.1))
 
 pub returns-then-pair_bits_wrong : goal.returns-then-pair_bits_wrong
 unfolding first_of
 returns-then-pair_bits_wrong c =
     let h = c.requires in
-    rw c.number-then-pair_bits_wrong.ensures
+    rw c.at-then-pair_bits_wrong.ensures
     (sym
     (step_form _ _ (sym (window_pair _ _ h.0 (via c.is.ensures (c.if-not-is.false)))) h.1
     ∙ rw (via (bits (goal.at.returns-then-pair_bits_wrong c).After-pair_bits_wrong) c.if-pair_bits_wrong.true)))
@@ -37,4 +37,4 @@ returns c =
     let h = c.requires in
     sym
     (step_form _ _ (sym (window_pair _ _ h.0 (via c.is.ensures (c.if-not-is.false)))) h.1
-    ∙ rw (via (bits (goal.at.returns c).After-pair_bits_wrong) c.if-pair_bits_wrong.false, c.moved.ensures, c.window_paired.ensures, h.0))
+    ∙ rw (via (bits (goal.at.returns c).After-pair_bits_wrong) c.if-pair_bits_wrong.false, c.moved-after.ensures, c.window_paired.ensures, h.0))
