@@ -1,6 +1,8 @@
 -- A reading from the bytes at a place, one word ahead, and the scalers' words ahead. Assumes nothing.
 use Rattle.std.specs.Prelude.{ℕ, ◌+◌, ◌-◌, ◌≤◌, ◌<◌, ◌≡◌, length, take, drop, get_or}
-use Rattle.std.proofs.Common.{sym, ap, ◌∙◌, arith, drop-drop, take_all}
+use Rattle.std.specs.declared.option.Option.{Option}
+use Rattle.std.specs.declared.option.Option.TheVariants.{None}
+use Rattle.std.proofs.Common.{refl, sym, ap, ◌∙◌, arith, drop-drop, take_all}
 use mathlib.Core.List.{List, [], ◌∷◌, map}
 use Rattle.std.proofs.Math.ListN.{length-drop}
 use Rattle.fields.specs.Bytes.{words_of_bytes}
@@ -15,8 +17,7 @@ use Rattle.reader.specs.Reader.{judge_at, Reading, on_judged, read_from}
 use Rattle.written.specs.Page.{Page, put}
 use Rattle.written.specs.PageLaws.{put_nil, put_append}
 use Rattle.written.specs.Line.{Number, cell_text, cells_text}
-use Rattle.lines.specs.declared.Second.TheVariants as N
-use Rattle.entries.specs.Entries.{second_of, scalers_in, scaler_cells}
+use Rattle.entries.specs.Entries.{high_in, second_of, scalers_in, scaler_cells}
 
 -- a part that is lent, from i to the end
 pub tail_is : (bytes : List ℕ) (i : ℕ) → take (length bytes - i) (drop i bytes) ≡ drop i bytes
@@ -33,13 +34,24 @@ read_at bytes i s {word} {j} {k} h e f g =
     ∙ ap (λ (l : List ℕ). on_judged k s.place (λ t. read_from t (words_of_bytes l))) (drop-drop 4 i bytes)
 
 -- a second time word, one word ahead
-pub second_none : (bytes : List ℕ) (s : Scan) → length bytes < 4 → N.Nothing ≡ second_of (read_from s (words_of_bytes bytes)).items
+abbrev pub second_by : Judged → Option ℕ
+second_by (J.Took x t) = high_in x
+second_by (J.Refused n p) = None
+second_by J.Ended = None
+
+pub second_none : (bytes : List ℕ) (s : Scan) → length bytes < 4 → second_of (read_from s (words_of_bytes bytes)).items ≡ None
 unfolding read_from
 second_none bytes s h = rw (words_none bytes h)
 
-pub second_at_lem : (bytes : List ℕ) (s : Scan) {word : ℕ} {j k : Judged} → 4 ≤ length bytes → word ≡ get_or (words_of_bytes bytes) 0 0 → j ≡ judge_at s word → j ≡ k
-    → second_of (on_judged k s.place (λ t. read_from t (words_of_bytes (drop 4 bytes)))).items ≡ second_of (read_from s (words_of_bytes bytes)).items
-second_at_lem bytes s h e f g = ap (λ (r : Reading). second_of r.items) (sym (read_at bytes 0 s (omega arith) e f g))
+pub second_some : (bytes : List ℕ) (s : Scan) (y : Judged) → 4 ≤ length bytes → y ≡ judge_at s (get_or (words_of_bytes bytes) 0 0) → second_of (read_from s (words_of_bytes bytes)).items ≡ second_by y
+second_some bytes s y h e = ap (λ (r : Reading). second_of r.items) (read_at bytes 0 s h refl e refl) ∙ go y
+  where
+    go : (k : Judged) → second_of (on_judged k s.place (λ t. read_from t (words_of_bytes (drop 4 bytes)))).items ≡ second_by k
+    go (J.Took x t) = refl
+    go (J.Refused n p) = refl
+    go J.Ended = refl
+
+pub ruleset second_ahead = (second_none, second_some)
 
 -- ---- the scalers' words ahead
 

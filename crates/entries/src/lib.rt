@@ -10,7 +10,6 @@ ghost use Rattle.lines.specs.Lines.{scalers_line};
 ghost use Rattle.entries.specs.Entries.{high_in, second_of, scalers_in, scaler_cells, record_lines, filler_in};
 
 use items::Item;
-use lines::Second;
 use reader::Judged;
 use scan::Scan;
 
@@ -24,28 +23,26 @@ pub fn first_word(bytes: &[u8]) -> u32
     fields::of_bytes(bytes[0], bytes[1], bytes[2], bytes[3])
 }
 
-fn high_in(item: Item) -> Second
+fn high_in(item: Item) -> Option<u32>
     ensures { result ≡ high_in item }
 {
-    if let Item::ClockHigh(r) = item {
-        Second::High(r.high)
-    } else {
-        Second::Nothing
+    match item {
+        Item::ClockHigh(r) => Some(r.high),
+        _ => None,
     }
 }
 
 // Looks one word ahead: a second time word, if one is accepted there.
-fn second_in(bytes: &[u8], scan: Scan) -> Second
+#[tactic(auto, using(crate::specs::AheadLaws::second_ahead))]
+fn second_in(bytes: &[u8], scan: Scan) -> Option<u32>
     ensures { result ≡ second_of (read_from scan (words_of_bytes bytes.now)).items }
 {
     if bytes.len() < 4 {
-        return Second::Nothing;
+        return None;
     }
-    let judged = reader::judge_at(scan, first_word(bytes));
-    match judged {
-        Judged::Took(item, _) => high_in(item),
-        Judged::Refused(_, _) => Second::Nothing,
-        Judged::Ended => Second::Nothing,
+    match reader::judge_at(scan, first_word(bytes)) {
+        Ok(Some((item, _))) => high_in(item),
+        Ok(None) | Err(_) => None,
     }
 }
 
