@@ -30,7 +30,7 @@ fn pulse_numbers(pulse: Pulse) -> [u32; PULSE]
 {
     let time = pulse.time;
     let rule = time.rule;
-    let rule_is = timing::rule_number(rule);
+    let rule_is = rule.number();
     [
         pulse.tc as u32,
         pulse.first as u32,
