@@ -47,13 +47,7 @@ fn words_ok(parameters: bool, times: u32, closed: u32, words: usize) -> bool
 fn no_marks(posted: &[bool]) -> bool
     ensures { result ≡ no_marks posted.now }
 {
-    let mut clear = true;
-    let mut channel = 0;
-    while channel < posted.len() {
-        clear = clear & !posted[channel];
-        channel += 1;
-    }
-    clear
+    posted.iter().fold(true, |clear, mark| clear & !*mark)
 }
 
 // The numbers of an open block are within their ranges.
@@ -69,13 +63,11 @@ fn in_block_ok(s: State) -> bool
 pub fn idle_ok(s: State) -> bool
     ensures { result ≡ phase_ok Idle s }
 {
-    let posted = s.posted;
-    let clear = no_marks(&posted);
     (s.block == 0)
         & (s.events == 0)
         & (s.event == 0)
         & (s.time == 0)
-        & clear
+        & no_marks(&s.posted)
         & (s.closed == 0)
         & (s.words == 0)
 }
@@ -84,10 +76,7 @@ pub fn idle_ok(s: State) -> bool
 pub fn between_ok(s: State) -> bool
     ensures { result ≡ phase_ok Block s }
 {
-    let posted = s.posted;
-    let clear = no_marks(&posted);
-    let block = in_block_ok(s);
-    block & (s.closed <= s.events) & (s.event == 0) & (s.time == 0) & clear
+    in_block_ok(s) & (s.closed <= s.events) & (s.event == 0) & (s.time == 0) & no_marks(&s.posted)
 }
 
 // an event is open.
