@@ -1,11 +1,10 @@
 -- A reading from the bytes at a place, one word ahead, and the scalers' words ahead. Assumes nothing.
 use Rattle.std.specs.Prelude.{ℕ, ◌+◌, ◌-◌, ◌≤◌, ◌<◌, ◌≡◌, length, take, drop, get_or}
-use Rattle.std.specs.declared.option.Option.{Option}
 use Rattle.std.specs.declared.option.Option.TheVariants.{None}
 use Rattle.std.proofs.Common.{refl, sym, ap, ◌∙◌, arith, drop-drop, take_all}
 use mathlib.Core.List.{List, [], ◌∷◌, map}
 use Rattle.std.proofs.Math.ListN.{length-drop}
-use Rattle.fields.specs.Bytes.{words_of_bytes}
+use Rattle.fields.specs.Bytes.{word_of_bytes, words_of_bytes}
 use Rattle.fields.proofs.BytesLaws.{words_none, words_some}
 use Rattle.framing.specs.declared.scaler.ScalerWord.{ScalerWord}
 use Rattle.items.specs.declared.Item.{Item}
@@ -33,25 +32,27 @@ read_at bytes i s {word} {j} {k} h e f g =
     ∙ ap (λ (x : Judged). on_judged x s.place (λ t. read_from t (words_of_bytes (drop 4 (drop i bytes))))) (ap (judge_at s) (sym (e ∙ ap (λ (l : List ℕ). get_or l 0 0) some)) ∙ sym f ∙ g)
     ∙ ap (λ (l : List ℕ). on_judged k s.place (λ t. read_from t (words_of_bytes l))) (drop-drop 4 i bytes)
 
--- a second time word, one word ahead
-abbrev pub second_by : Judged → Option ℕ
-second_by (J.Took x t) = high_in x
-second_by (J.Refused n p) = None
-second_by J.Ended = None
+-- the reading from the first word, judged j
+from_first : (bytes : List ℕ) (s : Scan) {j : Judged} → 4 ≤ length bytes → j ≡ judge_at s (get_or (words_of_bytes bytes) 0 0)
+    → read_from s (words_of_bytes bytes) ≡ on_judged j s.place (λ t. read_from t (words_of_bytes (drop 4 bytes)))
+from_first bytes s h e = read_at bytes 0 s h refl e refl
 
+-- a second time word, one word ahead
 pub second_none : (bytes : List ℕ) (s : Scan) → length bytes < 4 → second_of (read_from s (words_of_bytes bytes)).items ≡ None
 unfolding read_from
 second_none bytes s h = rw (words_none bytes h)
 
-pub second_some : (bytes : List ℕ) (s : Scan) (y : Judged) → 4 ≤ length bytes → y ≡ judge_at s (get_or (words_of_bytes bytes) 0 0) → second_of (read_from s (words_of_bytes bytes)).items ≡ second_by y
-second_some bytes s y h e = ap (λ (r : Reading). second_of r.items) (read_at bytes 0 s h refl e refl) ∙ go y
-  where
-    go : (k : Judged) → second_of (on_judged k s.place (λ t. read_from t (words_of_bytes (drop 4 bytes)))).items ≡ second_by k
-    go (J.Took x t) = refl
-    go (J.Refused n p) = refl
-    go J.Ended = refl
+module _ (bytes : List ℕ) (s : Scan) (h : 4 ≤ length bytes) where
+  pub second_took : (x : Item) (u : Scan) → J.Took x u ≡ judge_at s (get_or (words_of_bytes bytes) 0 0) → second_of (read_from s (words_of_bytes bytes)).items ≡ high_in x
+  second_took x u e = ap (λ (r : Reading). second_of r.items) (from_first bytes s h e)
 
-pub ruleset second_ahead = (second_none, second_some)
+  pub second_refused : (n p : ℕ) → J.Refused n p ≡ judge_at s (get_or (words_of_bytes bytes) 0 0) → second_of (read_from s (words_of_bytes bytes)).items ≡ None
+  second_refused n p e = ap (λ (r : Reading). second_of r.items) (from_first bytes s h e)
+
+  pub second_ended : J.Ended ≡ judge_at s (get_or (words_of_bytes bytes) 0 0) → second_of (read_from s (words_of_bytes bytes)).items ≡ None
+  second_ended e = ap (λ (r : Reading). second_of r.items) (from_first bytes s h e)
+
+pub ruleset second_ahead = (second_none, second_took, second_refused, second_ended)
 
 -- ---- the scalers' words ahead
 
@@ -64,26 +65,38 @@ cells_done : (p : Page) (ns : List ℕ) → ns ≡ [] → put p (cells_text (map
 unfolding cells_text
 cells_done p ns e = ap (λ (l : List ℕ). put p (cells_text (map (λ k. Number k) l))) e ∙ put_nil p
 
-module _ (bytes : List ℕ) (i : ℕ) (s : Scan) (p : Page) where
-  pub scalers_end : length bytes < i + 4 → put p (scaler_cells (read_from s (words_of_bytes (drop i bytes))).items) ≡ p
+module _ (rest : List ℕ) (s : Scan) (p : Page) where
+  pub cells_none : length rest < 4 → put p (scaler_cells (read_from s (words_of_bytes rest)).items) ≡ p
   unfolding read_from
-  scalers_end h = cells_done p _ (ap (λ (l : List ℕ). scalers_in (read_from s l).items) (words_none (drop i bytes) (omega (arith, length-drop i bytes))))
+  cells_none h = cells_done p _ (ap (λ (l : List ℕ). scalers_in (read_from s l).items) (words_none rest h))
 
-  module _ {word : ℕ} {j : Judged} (h : i + 4 ≤ length bytes) (e : word ≡ get_or (words_of_bytes (take (length bytes - i) (drop i bytes))) 0 0) (f : j ≡ judge_at s word) where
-    here : {k : Judged} → j ≡ k → read_from s (words_of_bytes (drop i bytes)) ≡ on_judged k s.place (λ t. read_from t (words_of_bytes (drop (i + 4) bytes)))
-    here g = read_at bytes i s h (e ∙ ap (λ (b : List ℕ). get_or (words_of_bytes b) 0 0) (tail_is bytes i)) f g
+  module _ (h : 4 ≤ length rest) where
+    here : {j : Judged} → j ≡ judge_at s (word_of_bytes (get_or rest 0 0) (get_or rest 1 0) (get_or rest 2 0) (get_or rest 3 0))
+        → read_from s (words_of_bytes rest) ≡ on_judged j s.place (λ t. read_from t (words_of_bytes (drop 4 rest)))
+    here e = from_first rest s h (e ∙ ap (λ (l : List ℕ). judge_at s (get_or l 0 0)) (sym (words_some rest h)))
 
     -- a word of the scalers is put
-    pub scalers_turn : {x : Item} {r : ScalerWord} {t : Scan} {q : Page} → j ≡ J.Took x t → x ≡ I.Scaler r → q ≡ put p (9 ∷ cell_text (Number r.value))
-        → put p (scaler_cells (read_from s (words_of_bytes (drop i bytes))).items) ≡ put q (scaler_cells (read_from t (words_of_bytes (drop (i + 4) bytes))).items)
-    scalers_turn {r = r} {t = t} {q = q} g v w =
-        ap (λ (y : Reading). put p (scaler_cells y.items)) (here (g ∙ ap (λ (y : Item). J.Took y t) v)) ∙ cells_turn p q r.value (scalers_in (read_from t (words_of_bytes (drop (i + 4) bytes))).items) w
-
-    -- the reading ends here
-    pub scalers_stop : {k : Judged} → j ≡ k → [] ≡ scalers_in (on_judged k s.place (λ t. read_from t (words_of_bytes (drop (i + 4) bytes)))).items
-        → put p (scaler_cells (read_from s (words_of_bytes (drop i bytes))).items) ≡ p
-    scalers_stop g z = ap (λ (y : Reading). put p (scaler_cells y.items)) (here g) ∙ cells_done p _ (sym z)
+    pub cells_went : (r : ScalerWord) (u : Scan) (q : Page) (behind : List ℕ) → behind ≡ drop 4 rest
+        → J.Took (I.Scaler r) u ≡ judge_at s (word_of_bytes (get_or rest 0 0) (get_or rest 1 0) (get_or rest 2 0) (get_or rest 3 0))
+        → q ≡ put p (9 ∷ cell_text (Number r.value))
+        → put p (scaler_cells (read_from s (words_of_bytes rest)).items) ≡ put q (scaler_cells (read_from u (words_of_bytes behind)).items)
+    cells_went r u q behind b e f =
+        ap (λ (y : Reading). put p (scaler_cells y.items)) (here e)
+        ∙ cells_turn p q r.value _ f
+        ∙ ap (λ (l : List ℕ). put q (scaler_cells (read_from u (words_of_bytes l)).items)) (sym b)
 
     -- another word stands here
-    pub scalers_other : {x : Item} {t : Scan} → j ≡ J.Took x t → ((xs : List Item) → [] ≡ scalers_in (x ∷ xs)) → put p (scaler_cells (read_from s (words_of_bytes (drop i bytes))).items) ≡ p
-    scalers_other {t = t} g z = scalers_stop g (z (read_from t (words_of_bytes (drop (i + 4) bytes))).items)
+    pub cells_other : (x : Item) (u : Scan) → ((xs : List Item) → [] ≡ scalers_in (x ∷ xs))
+        → J.Took x u ≡ judge_at s (word_of_bytes (get_or rest 0 0) (get_or rest 1 0) (get_or rest 2 0) (get_or rest 3 0))
+        → put p (scaler_cells (read_from s (words_of_bytes rest)).items) ≡ p
+    cells_other x u z e = ap (λ (y : Reading). put p (scaler_cells y.items)) (here e) ∙ cells_done p _ (sym (z _))
+
+    pub cells_refused : (n k : ℕ) → J.Refused n k ≡ judge_at s (word_of_bytes (get_or rest 0 0) (get_or rest 1 0) (get_or rest 2 0) (get_or rest 3 0))
+        → put p (scaler_cells (read_from s (words_of_bytes rest)).items) ≡ p
+    cells_refused n k e = ap (λ (y : Reading). put p (scaler_cells y.items)) (here e) ∙ cells_done p _ refl
+
+    pub cells_ended : J.Ended ≡ judge_at s (word_of_bytes (get_or rest 0 0) (get_or rest 1 0) (get_or rest 2 0) (get_or rest 3 0))
+        → put p (scaler_cells (read_from s (words_of_bytes rest)).items) ≡ p
+    cells_ended e = ap (λ (y : Reading). put p (scaler_cells y.items)) (here e) ∙ cells_done p _ refl
+
+pub ruleset cells_ahead = (cells_none, cells_refused, cells_ended)

@@ -1,4 +1,3 @@
 -- What the lister prints of one record, and its laws.
 pub mod Entries
-pub mod RecordLaws
 pub mod AheadLaws

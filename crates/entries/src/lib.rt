@@ -10,17 +10,16 @@ ghost use Rattle.lines.specs.Lines.{scalers_line};
 ghost use Rattle.entries.specs.Entries.{high_in, second_of, scalers_in, scaler_cells, record_lines, filler_in};
 
 use items::Item;
-use reader::Judged;
 use scan::Scan;
 
 // The first word of the bytes, 0 for none.
 pub fn first_word(bytes: &[u8]) -> u32
     ensures { result ≡ get_or (words_of_bytes bytes.now) 0 0 }
 {
-    if bytes.len() < 4 {
+    let [a, b, c, d, ..] = bytes else {
         return 0;
-    }
-    fields::of_bytes(bytes[0], bytes[1], bytes[2], bytes[3])
+    };
+    fields::of_bytes(*a, *b, *c, *d)
 }
 
 fn high_in(item: Item) -> Option<u32>
@@ -47,27 +46,24 @@ fn second_in(bytes: &[u8], scan: Scan) -> Option<u32>
 }
 
 // The scalers' words that are accepted here, each behind a tab.
+#[tactic(auto, using(crate::specs::AheadLaws::cells_ahead))]
 fn put_words(text: &mut [u8], from: usize, bytes: &[u8], after: Scan) -> usize
     ensures { (text.new, result) ≡ put (text.old, from) (scaler_cells (read_from after (words_of_bytes bytes.now)).items) }
 {
     let mut scan = after;
-    let mut next: usize = 0;
+    let mut rest = bytes;
     let mut at = from;
-    while 4 <= bytes.len() - next {
-        let judged = reader::judge_at(scan, first_word(&bytes[next..]));
-        match judged {
-            Judged::Took(item, behind) => {
-                if let Item::Scaler(r) = item {
-                    at = text::put_cell(text, at, false, r.value as u64);
-                    scan = behind;
-                    next += 4;
-                } else {
-                    return at;
-                }
-            }
-            Judged::Refused(_, _) => return at,
-            Judged::Ended => return at,
-        }
+    while let [a, b, c, d, behind @ ..] = rest {
+        let word = fields::of_bytes(*a, *b, *c, *d);
+        let Ok(Some((item, after))) = reader::judge_at(scan, word) else {
+            return at;
+        };
+        let Item::Scaler(r) = item else {
+            return at;
+        };
+        at = text::put_cell(text, at, false, u64::from(r.value));
+        scan = after;
+        rest = behind;
     }
     at
 }
@@ -82,6 +78,7 @@ fn put_scalers(text: &mut [u8], at: usize, behind: &[u8], after: Scan) -> usize
 }
 
 // The lines of one record; `behind` and `after` are the bytes and the scan behind it.
+#[tactic(auto, using(written::specs::LineLaws::text_one), unfolding(written::specs::Line::text_of, written::specs::Page::put))]
 pub fn list_item(text: &mut [u8], at: usize, item: Item, behind: &[u8], after: Scan) -> usize
     ensures { (text.new, result) ≡ put (text.old, at) (text_of (record_lines item (read_from after (words_of_bytes behind.now)).items)) }
 {
@@ -91,7 +88,6 @@ pub fn list_item(text: &mut [u8], at: usize, item: Item, behind: &[u8], after: S
         Item::Trailer(r) => lines::put_end(text, at, r),
         Item::Event(r) => lines::put_event(text, at, r),
         Item::Clock(r) => lines::put_clock(text, at, r, second_in(behind, after)),
-        Item::ClockHigh(_) => at,
         Item::Window(r) => lines::put_window(text, at, r),
         Item::Raw(r) => lines::put_pulse(text, at, r),
         Item::Pair(r) => lines::put_pair(text, at, r),
@@ -99,9 +95,8 @@ pub fn list_item(text: &mut [u8], at: usize, item: Item, behind: &[u8], after: S
         Item::Time(r) => lines::put_time(text, at, r),
         Item::Pedestal(r) => lines::put_ped(text, at, r),
         Item::Empty(r) => lines::put_empty(text, at, r),
-        Item::Filler(_) => at,
         Item::Scalers(_) => put_scalers(text, at, behind, after),
-        Item::Scaler(_) => at,
+        Item::ClockHigh(_) | Item::Filler(_) | Item::Scaler(_) => at,
     }
 }
 
@@ -109,5 +104,8 @@ pub fn list_item(text: &mut [u8], at: usize, item: Item, behind: &[u8], after: S
 pub fn filler_in(item: Item) -> u64
     ensures { (result ≡ filler_in item) × (result ≤ 1) }
 {
-    if let Item::Filler(_) = item { 1 } else { 0 }
+    match item {
+        Item::Filler(_) => 1,
+        _ => 0,
+    }
 }

@@ -1,5 +1,5 @@
 -- The words that the lister knows at a glance. Assumes nothing.
-use Rattle.std.specs.Prelude.{ℕ, ◌-◌, ◌≡◌, true, cond, not, ◌&&◌, List, ltb}
+use Rattle.std.specs.Prelude.{ℕ, Option, Some, None, ◌-◌, ◌≡◌, true, cond, not, ◌&&◌, List, ltb}
 use Rattle.fields.specs.Tag.{is_defining}
 use Rattle.raw.specs.Plain.{plain}
 use Rattle.raw.specs.Words.{pair_of}
@@ -18,10 +18,6 @@ use Rattle.written.specs.Line.{Line, line_text}
 use Rattle.lines.specs.Lines.{pair_line, integral_line, time_line, ped_line}
 use Rattle.glance.specs.declared.Kind.{Kind}
 use Rattle.glance.specs.declared.Kind.TheVariants as K
-use Rattle.glance.specs.declared.Quick.{Quick}
-use Rattle.glance.specs.declared.Quick.TheVariants as Q
-use Rattle.glance.specs.declared.Known.{Known}
-use Rattle.glance.specs.declared.Known.TheVariants as N
 
 abbrev pub quick_item : Kind → ℕ → Item
 quick_item K.Pair word = I.Pair (pair_of word)
@@ -37,6 +33,10 @@ quick_line K.Pedestal word = ped_line (pedestal_of word)
 
 -- ---- which words are known
 
+-- a word's kind and the scan behind it; none is another word
+abbrev pub Quick : Type 0
+Quick = Option (Kind × Scan)
+
 -- the scan behind a word that changes the stage alone
 abbrev pub behind_at : Scan → Stage → Scan
 behind_at s p = record { place = onward s.place; slot = s.slot; left = s.left; stage = p }
@@ -44,39 +44,43 @@ behind_at s p = record { place = onward s.place; slot = s.slot; left = s.left; s
 -- behind an item of an event: a measure, its zero bits zero
 abbrev pub measure_of : Scan → ℕ → Quick
 measure_of t word =
-    cond (is_defining 7 word) (Q.Took K.Integral t)
-    (cond (is_defining 10 word) (Q.Took K.Pedestal t)
-    (cond (is_defining 8 word && time_fixed word) (Q.Took K.Time t)
-    Q.Other))
+    cond (is_defining 7 word) (Some (K.Integral, t))
+    (cond (is_defining 10 word) (Some (K.Pedestal, t))
+    (cond (is_defining 8 word && time_fixed word) (Some (K.Time, t))
+    None))
 
 -- in a raw item: a pair of two samples that is not the window's last
 abbrev pub quick_by : Scan → Stage → ℕ → Quick
-quick_by s P.Start word = Q.Other
-quick_by s P.Head word = Q.Other
-quick_by s P.Front word = Q.Other
-quick_by s P.Opened word = Q.Other
-quick_by s (P.Timed bits) word = Q.Other
+quick_by s P.Start word = None
+quick_by s P.Head word = None
+quick_by s P.Front word = None
+quick_by s P.Opened word = None
+quick_by s (P.Timed bits) word = None
 quick_by s P.Items word = measure_of (behind_at s P.Items) word
-quick_by s (P.Window n odd) word = cond (not (ltb 1 n && plain word)) Q.Other (Q.Took K.Pair (behind_at s (P.Window (n - 1) odd)))
-quick_by s (P.Raw n some) word = cond (not (ltb 0 n && plain word)) Q.Other (Q.Took K.Pair (behind_at s (P.Raw (n - 1) true)))
-quick_by s (P.Tail n) word = Q.Other
-quick_by s (P.Scalers n) word = Q.Other
+quick_by s (P.Window n odd) word = cond (not (ltb 1 n && plain word)) None (Some (K.Pair, behind_at s (P.Window (n - 1) odd)))
+quick_by s (P.Raw n some) word = cond (not (ltb 0 n && plain word)) None (Some (K.Pair, behind_at s (P.Raw (n - 1) true)))
+quick_by s (P.Tail n) word = None
+quick_by s (P.Scalers n) word = None
 
 unfoldable pub quick_of : Scan → ℕ → Quick
-quick_of s word = cond (at_limit s) Q.Other (quick_by s s.stage word)
+quick_of s word = cond (at_limit s) None (quick_by s s.stage word)
 
 -- a word that is taken is judged so
 abbrev pub QuickSays : Scan → ℕ → Quick → Type 0
-QuickSays s word (Q.Took kind t) = J.Took (quick_item kind word) t ≡ judge_at s word
-QuickSays s word Q.Other = Unit
+QuickSays s word (Some q) = J.Took (quick_item q.0 word) q.1 ≡ judge_at s word
+QuickSays s word None = Unit
 
 -- ---- what is put
 
+-- behind a word that is known: the next place of the text, and the scan
+abbrev pub Known : Type 0
+Known = Option (ℕ × Scan)
+
 -- the buffer, the next place and the scan
 abbrev pub on_to : Page → Scan → List ℕ × Known
-on_to p t = (p.0, N.Took p.1 t)
+on_to p t = (p.0, Some (p.1, t))
 
 -- a known word's line; no other word's
 abbrev pub known_of : Page → Quick → ℕ → List ℕ × Known
-known_of p (Q.Took kind t) word = on_to (put p (line_text (quick_line kind word))) t
-known_of p Q.Other word = (p.0, N.Other)
+known_of p (Some q) word = on_to (put p (line_text (quick_line q.0 word))) q.1
+known_of p None word = (p.0, None)

@@ -1,5 +1,5 @@
 -- A word that is known at a glance is judged so. Assumes nothing.
-use Rattle.std.specs.Prelude.{ℕ, ◌-◌, ◌≤◌, ◌<◌, ◌≡◌, Bool, true, false, cond, not, ◌&&◌, List, [], ◌∷◌, ltb, drop}
+use Rattle.std.specs.Prelude.{ℕ, Some, None, ◌-◌, ◌≤◌, ◌<◌, ◌≡◌, Bool, true, false, cond, not, ◌&&◌, List, [], ◌∷◌, ltb, drop}
 use Rattle.std.proofs.Math.Path.{refl, ap}
 use Rattle.std.proofs.Common.{sym, ◌∙◌, arith}
 use borrow.Author.Tests.{ltb-true, lt-leb, ne_eqb}
@@ -35,11 +35,7 @@ use Rattle.glance.specs.declared.Kind.{Kind}
 use Rattle.glance.specs.declared.Kind.TheVariants as K
 use Rattle.raw.specs.Plain.{plain}
 use Rattle.raw.specs.PlainLaws.{plain_bits}
-use Rattle.glance.specs.declared.Quick.{Quick}
-use Rattle.glance.specs.declared.Quick.TheVariants as Q
-use Rattle.glance.specs.declared.Known.{Known}
-use Rattle.glance.specs.declared.Known.TheVariants as N
-use Rattle.glance.specs.Quick.{quick_item, quick_line, behind_at, measure_of, quick_by, quick_of, QuickSays, known_of}
+use Rattle.glance.specs.Quick.{Quick, Known, quick_item, quick_line, behind_at, measure_of, quick_by, quick_of, QuickSays, known_of}
 
 -- its record has that line, whatever follows, and is no filler
 pub quick_line_lem : (kind : Kind) (word : ℕ) (behind : List Item) → record_lines (quick_item kind word) behind ≡ quick_line kind word ∷ []
@@ -101,15 +97,15 @@ module _ (s : Scan) (word : ℕ) (h : at_limit s ≡ false) where
 measure_says : (s : Scan) (word : ℕ) → at_limit s ≡ false → s.stage ≡ P.Items → QuickSays s word (measure_of (behind_at s P.Items) word)
 measure_says s word h p = integral (is_defining 7 word) refl
   where
-    time : (b : Bool) → is_defining 8 word && time_fixed word ≡ b → QuickSays s word (cond b (Q.Took K.Time (behind_at s P.Items)) Q.Other)
+    time : (b : Bool) → is_defining 8 word && time_fixed word ≡ b → QuickSays s word (cond b (Some (K.Time, (behind_at s P.Items))) None)
     time true d = time_quick s word h p d
     time false d = tt
 
-    pedestal : (b : Bool) → is_defining 10 word ≡ b → QuickSays s word (cond b (Q.Took K.Pedestal (behind_at s P.Items)) (cond (is_defining 8 word && time_fixed word) (Q.Took K.Time (behind_at s P.Items)) Q.Other))
+    pedestal : (b : Bool) → is_defining 10 word ≡ b → QuickSays s word (cond b (Some (K.Pedestal, (behind_at s P.Items))) (cond (is_defining 8 word && time_fixed word) (Some (K.Time, (behind_at s P.Items))) None))
     pedestal true d = pedestal_quick s word h p d
     pedestal false d = time (is_defining 8 word && time_fixed word) refl
 
-    integral : (b : Bool) → is_defining 7 word ≡ b → QuickSays s word (cond b (Q.Took K.Integral (behind_at s P.Items)) (cond (is_defining 10 word) (Q.Took K.Pedestal (behind_at s P.Items)) (cond (is_defining 8 word && time_fixed word) (Q.Took K.Time (behind_at s P.Items)) Q.Other)))
+    integral : (b : Bool) → is_defining 7 word ≡ b → QuickSays s word (cond b (Some (K.Integral, (behind_at s P.Items))) (cond (is_defining 10 word) (Some (K.Pedestal, (behind_at s P.Items))) (cond (is_defining 8 word && time_fixed word) (Some (K.Time, (behind_at s P.Items))) None)))
     integral true d = integral_quick s word h p d
     integral false d = pedestal (is_defining 10 word) refl
 
@@ -122,12 +118,12 @@ stage_says s word h (P.Timed bits) e = tt
 stage_says s word h P.Items e = measure_says s word h e
 stage_says s word h (P.Window n odd) e = go (ltb 1 n && plain word) refl
   where
-    go : (b : Bool) → ltb 1 n && plain word ≡ b → QuickSays s word (cond (not b) Q.Other (Q.Took K.Pair (behind_at s (P.Window (n - 1) odd))))
+    go : (b : Bool) → ltb 1 n && plain word ≡ b → QuickSays s word (cond (not b) None (Some (K.Pair, (behind_at s (P.Window (n - 1) odd)))))
     go true d = window_quick s word h n e d
     go false d = tt
 stage_says s word h (P.Raw n some) e = go (ltb 0 n && plain word) refl
   where
-    go : (b : Bool) → ltb 0 n && plain word ≡ b → QuickSays s word (cond (not b) Q.Other (Q.Took K.Pair (behind_at s (P.Raw (n - 1) true))))
+    go : (b : Bool) → ltb 0 n && plain word ≡ b → QuickSays s word (cond (not b) None (Some (K.Pair, (behind_at s (P.Raw (n - 1) true)))))
     go true d = raw_quick s word h n e d
     go false d = tt
 stage_says s word h (P.Tail n) e = tt
@@ -137,7 +133,7 @@ pub quick_says : (s : Scan) (word : ℕ) → QuickSays s word (quick_of s word)
 unfolding quick_of
 quick_says s word = go (at_limit s) refl
   where
-    go : (b : Bool) → at_limit s ≡ b → QuickSays s word (cond b Q.Other (quick_by s s.stage word))
+    go : (b : Bool) → at_limit s ≡ b → QuickSays s word (cond b None (quick_by s s.stage word))
     go true h = tt
     go false h = stage_says s word h s.stage refl
 
@@ -152,27 +148,28 @@ pub record Went (s : Scan) (word : ℕ) (behind text : List ℕ) (at : ℕ) (k :
   pub most : m ≤ 1
 
 module _ (s : Scan) (word : ℕ) (text : List ℕ) (at : ℕ) {text' : List ℕ} {r : Known} (e : ◌≡◌ {A = List ℕ × Known} (text', r) (known_of (text, at) (quick_of s word) word)) where
-  pub known_took : {k : ℕ} {t : Scan} → r ≡ N.Took k t → (behind : List ℕ) → Went s word behind text at k t 0 text'
+  pub known_took : {k : ℕ} {t : Scan} → r ≡ Some (k, t) → (behind : List ℕ) → Went s word behind text at k t 0 text'
   known_took {k} {t} g behind = go (quick_of s word) (quick_says s word) e
     where
       go : (q : Quick) → QuickSays s word q → ◌≡◌ {A = List ℕ × Known} (text', r) (known_of (text, at) q word) → Went s word behind text at k t 0 text'
-      go (Q.Took kind u) f h =
-          let p : Page = put (text, at) (line_text (quick_line kind word)) in
-          let d : N.Took k t ≡ N.Took p.1 u = sym g ∙ ap (λ (y : List ℕ × Known). y.1) h in
-          let v : u ≡ t = cc in
+      go (Some q) f h =
+          let p : Page = put (text, at) (line_text (quick_line q.0 word)) in
+          let d : ◌≡◌ {A = Known} (Some (k, t)) (Some (p.1, q.1)) = sym g ∙ ap (λ (y : List ℕ × Known). y.1) h in
+          let same : ◌≡◌ {A = ℕ × Scan} (k, t) (p.1, q.1) = cc in
+          let v : q.1 ≡ t = sym (ap (λ (y : ℕ × Scan). y.1) same) in
           let a : text' ≡ p.0 = ap (λ (y : List ℕ × Known). y.0) h in
-          let b : k ≡ p.1 = cc in
+          let b : k ≡ p.1 = ap (λ (y : ℕ × Scan). y.0) same in
           let c : ◌≡◌ {A = Page} (text', k) p = ap (λ (l : List ℕ). (l, k)) a ∙ ap (λ (n : ℕ). (p.0, n)) b in
-          record { item = quick_item kind word; judged = rw v at f; page = say_one _ _ _ (quick_line kind word) c (quick_line_lem kind word _); filler = sym (quick_filler kind word); most = omega arith }
-      go Q.Other f h = let d : N.Took k t ≡ N.Other = sym g ∙ ap (λ (y : List ℕ × Known). y.1) h in let z : ◌≡◌ {A = ℕ} 0 1 = cc in absurd (omega arith)
+          record { item = quick_item q.0 word; judged = rw v at f; page = say_one _ _ _ (quick_line q.0 word) c (quick_line_lem q.0 word _); filler = sym (quick_filler q.0 word); most = omega arith }
+      go None f h = let d : ◌≡◌ {A = Known} (Some (k, t)) None = sym g ∙ ap (λ (y : List ℕ × Known). y.1) h in let z : ◌≡◌ {A = ℕ} 0 1 = cc in absurd (omega arith)
 
-  pub known_other : r ≡ N.Other → text' ≡ text
+  pub known_other : r ≡ None → text' ≡ text
   known_other g = go (quick_of s word) e
     where
       go : (q : Quick) → ◌≡◌ {A = List ℕ × Known} (text', r) (known_of (text, at) q word) → text' ≡ text
-      go (Q.Took kind u) h =
-          let p : Page = put (text, at) (line_text (quick_line kind word)) in
-          let d : N.Other ≡ N.Took p.1 u = sym g ∙ ap (λ (y : List ℕ × Known). y.1) h in
+      go (Some q) h =
+          let p : Page = put (text, at) (line_text (quick_line q.0 word)) in
+          let d : ◌≡◌ {A = Known} None (Some (p.1, q.1)) = sym g ∙ ap (λ (y : List ℕ × Known). y.1) h in
           let z : ◌≡◌ {A = ℕ} 0 1 = cc in
           absurd (omega arith)
-      go Q.Other h = ap (λ (y : List ℕ × Known). y.0) h
+      go None h = ap (λ (y : List ℕ × Known). y.0) h

@@ -15,13 +15,6 @@ use measures::time::PulseTime;
 use raw::pair::SamplePair;
 use scan::{Scan, Stage};
 
-// Behind a word that is known: the next place of the text, and the scan. Or another word.
-#[derive(Clone, Copy)]
-pub enum Known {
-    Took(usize, Scan),
-    Other,
-}
-
 #[derive(Clone, Copy)]
 enum Kind {
     Pair,
@@ -30,77 +23,50 @@ enum Kind {
     Pedestal,
 }
 
-// The word's kind and the scan behind it, or another word.
-#[derive(Clone, Copy)]
-enum Quick {
-    Took(Kind, Scan),
-    Other,
-}
-
 // A pair without a flag, its zero bits zero.
+#[tactic(auto, unfolding(raw::specs::Plain::plain))]
 fn is_plain(word: u32) -> bool
     ensures { result ≡ plain word }
 {
     (fields::take(word, 29, 3) == 0) & (fields::take(word, 13, 3) == 0)
 }
 
-// Behind an item of an event.
-fn measure(scan: Scan, word: u32) -> Quick
+// Behind an item of an event: the word's kind, and the scan behind it.
+fn measure(scan: Scan, word: u32) -> Option<(Kind, Scan)>
     ensures { result ≡ measure_of (behind_at scan Stage.Items) word }
 {
     let after = scan::after::moved(scan, Stage::Items);
     if PulseIntegral::is(word) {
-        return Quick::Took(Kind::Integral, after);
+        return Some((Kind::Integral, after));
     }
     if PulsePedestal::is(word) {
-        return Quick::Took(Kind::Pedestal, after);
+        return Some((Kind::Pedestal, after));
     }
     if PulseTime::is(word) & PulseTime::fixed(word) {
-        return Quick::Took(Kind::Time, after);
+        return Some((Kind::Time, after));
     }
-    Quick::Other
+    None
 }
 
 // A pair that is a window's last is left to the reader.
-fn in_stage(scan: Scan, word: u32) -> Quick
+fn in_stage(scan: Scan, word: u32) -> Option<(Kind, Scan)>
     ensures { result ≡ quick_by scan scan.stage word }
 {
-    let p = scan.stage;
-    match p {
-        Stage::Start => Quick::Other,
-        Stage::Head => Quick::Other,
-        Stage::Front => Quick::Other,
-        Stage::Opened => Quick::Other,
-        Stage::Timed(_) => Quick::Other,
-        Stage::Items => measure(scan, word),
-        Stage::Window(n, odd) => {
-            if !((1 < n) & is_plain(word)) {
-                return Quick::Other;
-            }
-            Quick::Took(
-                Kind::Pair,
-                scan::after::moved(scan, Stage::Window(n - 1, odd)),
-            )
-        }
-        Stage::Raw(n, _) => {
-            if !((0 < n) & is_plain(word)) {
-                return Quick::Other;
-            }
-            Quick::Took(
-                Kind::Pair,
-                scan::after::moved(scan, Stage::Raw(n - 1, true)),
-            )
-        }
-        Stage::Tail(_) => Quick::Other,
-        Stage::Scalers(_) => Quick::Other,
-    }
+    let after = match scan.stage {
+        Stage::Items => return measure(scan, word),
+        Stage::Window(n, odd) if (1 < n) & is_plain(word) => Stage::Window(n - 1, odd),
+        Stage::Raw(n, _) if (0 < n) & is_plain(word) => Stage::Raw(n - 1, true),
+        _ => return None,
+    };
+    Some((Kind::Pair, scan::after::moved(scan, after)))
 }
 
-fn glance(scan: Scan, word: u32) -> Quick
+#[tactic(auto, unfolding(crate::specs::Quick::quick_of))]
+fn glance(scan: Scan, word: u32) -> Option<(Kind, Scan)>
     ensures { result ≡ quick_of scan word }
 {
     if questions::at_limit(scan) {
-        return Quick::Other;
+        return None;
     }
     in_stage(scan, word)
 }
@@ -116,13 +82,10 @@ fn put_quick(text: &mut [u8], at: usize, kind: Kind, word: u32) -> usize
     }
 }
 
-// The line of a word that is known.
-pub fn put_known(text: &mut [u8], at: usize, scan: Scan, word: u32) -> Known
+// The line of a word that is known: the next place of the text, and the scan behind the word.
+pub fn put_known(text: &mut [u8], at: usize, scan: Scan, word: u32) -> Option<(usize, Scan)>
     ensures { (text.new, result) ≡ known_of (text.old, at) (quick_of scan word) word }
 {
-    let quick = glance(scan, word);
-    match quick {
-        Quick::Took(kind, after) => Known::Took(put_quick(text, at, kind, word), after),
-        Quick::Other => Known::Other,
-    }
+    let (kind, after) = glance(scan, word)?;
+    Some((put_quick(text, at, kind, word), after))
 }
