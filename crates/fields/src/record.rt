@@ -3,7 +3,7 @@ ghost use Rattle.std.specs.Prelude.{◌≡◌, ℕ, true, List};
 ghost use Rattle.fields.specs.Word.{Field, fit, pack};
 ghost use Rattle.fields.specs.Tag.{is_defining, is_continuation};
 
-// A record that a word holds.
+// A record that a word holds. `fixed`, of the types that show bits fixed, is no part of it: no body here could answer for the others.
 pub trait Record: Copy {
     // The row of the table that its word is written by, and the record that a word holds.
     ghost row: { Self → List Field };
