@@ -18,7 +18,7 @@ fn chunk<K: Kind>(bytes: &[u8], k: usize, n: usize) -> bool
     good
 }
 
-// All words, by chunks of that size: the last may overlap the one before it, so no step is the same for all, as a `for` wants it.
+// All words, by chunks of that size. The last may overlap the one before it: its step is shorter, which no `for` says.
 // One call of the test, so that it is compiled in its place.
 #[tactic(auto, using(crate::specs::StretchesLaws::row_all))]
 pub(crate) fn every<K: Kind>(bytes: &[u8], size: usize) -> bool
