@@ -27,10 +27,7 @@ pub fn event_ok(number: u32, time: u64) -> bool
 pub fn head_words(parameters: bool) -> usize
     ensures { result ≡ cond parameters 2 1 }
 {
-    if parameters {
-        return 2;
-    }
-    1
+    if parameters { 2 } else { 1 }
 }
 
 // The words counted are within their range for the events closed. In 64 bits no state, forged or not, makes a sum wrap.
@@ -54,9 +51,8 @@ fn no_marks(posted: &[bool]) -> bool
 fn in_block_ok(s: State) -> bool
     ensures { result ≡ in_block_ok s }
 {
-    let settings = s.settings;
-    let words = words_ok(settings.parameters, settings.times, s.closed, s.words);
-    block_ok(s.block, s.events) & words
+    block_ok(s.block, s.events)
+        & words_ok(s.settings.parameters, s.settings.times, s.closed, s.words)
 }
 
 // All but the settings is within the ranges of each phase: no block is open,
@@ -83,17 +79,14 @@ pub fn between_ok(s: State) -> bool
 pub fn during_ok(s: State) -> bool
     ensures { result ≡ phase_ok Event s }
 {
-    let block = in_block_ok(s);
-    let event = event_ok(s.event, s.time);
-    block & (s.closed < s.events) & event
+    in_block_ok(s) & (s.closed < s.events) & event_ok(s.event, s.time)
 }
 
 // The same of the state's own phase.
 fn phase_ok(s: State) -> bool
     ensures { result ≡ phase_ok s.phase s }
 {
-    let phase = s.phase;
-    match phase {
+    match s.phase {
         Phase::Idle => idle_ok(s),
         Phase::Block => between_ok(s),
         Phase::Event => during_ok(s),
@@ -104,19 +97,14 @@ fn phase_ok(s: State) -> bool
 pub fn common_ok(s: State) -> bool
     ensures { result ≡ common_ok s }
 {
-    let settings = s.settings;
-    let scalers = s.scalers;
-    let good = settings::in_range(settings);
-    good & ((scalers.part as usize) < GROUP)
+    settings::in_range(s.settings) & ((s.scalers.part as usize) < GROUP)
 }
 
 // The state keeps its ranges.
 pub fn state_ok(s: State) -> bool
     ensures { result ≡ state_ok s }
 {
-    let good = common_ok(s);
-    let phase = phase_ok(s);
-    good & phase
+    common_ok(s) & phase_ok(s)
 }
 
 pub fn is_idle(phase: Phase) -> bool
