@@ -1,10 +1,10 @@
 -- A block listed word by word. Assumes nothing.
-use Rattle.std.specs.Prelude.{ℕ, ◌+◌, ◌-◌, ◌*◌, ◌≤◌, ◌<◌, ◌≡◌, refl, true, false, eqb, length, take, drop, get_or}
+use Rattle.std.specs.Prelude.{ℕ, ◌+◌, ◌-◌, ◌*◌, ◌≤◌, ◌<◌, ◌≡◌, refl, true, false, eqb, length, drop, get_or}
 use Rattle.std.proofs.Math.Path.{sym, ap}
 use Rattle.std.proofs.Common.{◌∙◌, arith, zero-add, add-zero, length-drop}
 use Rattle.std.proofs.lemmas.Bool.{false≢true}
 use mathlib.Core.List.{List, [], ◌∷◌, ◌++◌, append_assoc, append-nil}
-use Rattle.fields.specs.Bytes.{words_of_bytes}
+use Rattle.fields.specs.Bytes.{word_of_bytes, words_of_bytes}
 use Rattle.fields.proofs.BytesLaws.{words_none}
 use Rattle.items.specs.declared.Item.{Item}
 use Rattle.scan.specs.declared.Scan.{Scan}
@@ -23,16 +23,16 @@ use Rattle.written.specs.LineLaws.{text_append, say_one, say_both}
 use Rattle.blocklines.specs.declared.Block.{Block}
 use Rattle.lines.specs.Lines.{refused_line, fill_lines}
 use Rattle.entries.specs.Entries.{record_lines, filler_in}
-use Rattle.entries.specs.AheadLaws.{tail_is, read_at}
+use Rattle.entries.specs.AheadLaws.{read_first}
 use Rattle.glance.specs.QuickLaws.{Went}
 use Rattle.blocklines.specs.BlockLines.{item_lines, fillers_in, is_whole, out_lines, block_lines, BlockSays, ReadingSays}
 
 -- ---- a reading
 
 -- no word is left
-pub read_end : (bytes : List ℕ) (i : ℕ) (s : Scan) {number : ℕ} → length bytes < i + 4 → number ≡ end_number s → read_from s (words_of_bytes (drop i bytes)) ≡ just (out_of number s.place)
+pub read_end : (bytes : List ℕ) (s : Scan) {number : ℕ} → length bytes < 4 → number ≡ end_number s → read_from s (words_of_bytes bytes) ≡ just (out_of number s.place)
 unfolding read_from
-read_end bytes i s h e = ap (read_from s) (words_none (drop i bytes) (omega (arith, length-drop i bytes))) ∙ ap just (end_by s ∙ ap (λ (n : ℕ). out_of n s.place) (sym e))
+read_end bytes s h e = ap (read_from s) (words_none bytes h) ∙ ap just (end_by s ∙ ap (λ (n : ℕ). out_of n s.place) (sym e))
 
 -- a block that is whole has a word
 start_judged : (word : ℕ) → J.Ended ≡ judge_at start_of word → ⊥
@@ -53,6 +53,21 @@ whole_some word words = go (judge_at start_of word) refl
     go (J.Refused n p) e h = absurd (false≢true h)
     go J.Ended e h = absurd (start_judged word e)
 
+-- ---- the bytes behind a word
+
+module _ (all rest behind : List ℕ) (h : 4 ≤ length rest) (b : behind ≡ drop 4 rest) (w : length rest ≤ length all) where
+  size : length behind ≡ length rest - 4
+  size = ap length b ∙ length-drop 4 rest
+
+  pub behind_within : length behind ≤ length all
+  behind_within = omega (arith, size)
+
+  pub behind_taken : length all - length behind ≡ length all - length rest + 4
+  behind_taken = omega (arith, size)
+
+  pub behind_fillers : {n k : ℕ} → n ≤ length all - length rest → k ≤ n + 1 → k ≤ length all - length behind
+  behind_fillers few one = omega (arith, size)
+
 -- ---- a block, word by word
 
 -- the lines of what is left of a block, behind n fillers
@@ -65,9 +80,9 @@ pub record Left (text₀ : List ℕ) (at : ℕ) (r : Reading) (text : List ℕ) 
   pub taken : 4 * length r.items ≡ i + 4 * length rest.items
   pub ended : r.out ≡ rest.out
 
-pub left_all : (text : List ℕ) (at : ℕ) (r : Reading) → Left text at r text at 0 0 r
+pub left_all : (text : List ℕ) (at : ℕ) (r : Reading) {i : ℕ} → i ≡ 0 → Left text at r text at 0 i r
 unfolding block_lines
-left_all text at r = record { page = rw (zero-add (fillers_in r.items)); taken = omega arith; ended = refl }
+left_all text at r none = record { page = rw (zero-add (fillers_in r.items)); taken = omega arith; ended = refl }
 
 module _ {text₀ : List ℕ} {at : ℕ} {r : Reading} {text : List ℕ} {k n i : ℕ} where
   pub left_is : {rest rest' : Reading} → Left text₀ at r text k n i rest → rest ≡ rest' → Left text₀ at r text k n i rest'
@@ -103,26 +118,27 @@ module _ {text₀ : List ℕ} {at : ℕ} {r : Reading} {text : List ℕ} {k n i 
         ended = s.ended ∙ ap is_whole (sym l.ended);
       }
 
-  -- the word at i, as it is judged
-  module _ (bytes : List ℕ) (s : Scan) {word : ℕ} (l : Left text₀ at r text k n i (read_from s (words_of_bytes (drop i bytes)))) (h : i + 4 ≤ length bytes) (e : word ≡ get_or (words_of_bytes (take (length bytes - i) (drop i bytes))) 0 0) where
-    left_word : {j : Judged} → judge_at s word ≡ j → Left text₀ at r text k n i (on_judged j s.place (λ t. read_from t (words_of_bytes (drop (i + 4) bytes))))
-    left_word g = left_is l (read_at bytes i s h (e ∙ ap (λ (b : List ℕ). get_or (words_of_bytes b) 0 0) (tail_is bytes i)) refl g)
+  -- the first word of the bytes that are left, as it is judged; `behind` are those behind it
+  module _ (bytes behind : List ℕ) (s : Scan) (h : 4 ≤ length bytes) (b : behind ≡ drop 4 bytes) (l : Left text₀ at r text k n i (read_from s (words_of_bytes bytes))) where
+    left_word : {j : Judged} → j ≡ judge_at s (word_of_bytes (get_or bytes 0 0) (get_or bytes 1 0) (get_or bytes 2 0) (get_or bytes 3 0))
+        → Left text₀ at r text k n i (on_judged j s.place (λ t. read_from t (words_of_bytes behind)))
+    left_word {j} e = left_is l (read_first bytes s h e ∙ ap (λ (w : List ℕ). on_judged j s.place (λ t. read_from t (words_of_bytes w))) (sym b))
 
-    -- its record is put, by the part of the bytes behind it
-    pub left_on : {text₁ text' : List ℕ} {k' m : ℕ} {t : Scan} → text₁ ≡ text → Went s word (take (length bytes - (i + 4)) (drop (i + 4) bytes)) text₁ k k' t m text'
-        → Left text₀ at r text' k' (n + m) (i + 4) (read_from t (words_of_bytes (drop (i + 4) bytes)))
-    left_on {text₁} {t} d w =
-        left_less (left_word (sym w.judged)) (w.page ∙ ap (λ (l : List ℕ). put (l, k) (text_of (record_lines w.item (read_from t (words_of_bytes (take (length bytes - (i + 4)) (drop (i + 4) bytes)))).items))) d ∙ ap (λ (b : List ℕ). put (text, k) (text_of (record_lines w.item (read_from t (words_of_bytes b)).items))) (tail_is bytes (i + 4))) w.filler
+    -- its record is put
+    pub left_took : {x : Item} {t : Scan} {text' : List ℕ} {k' m i' : ℕ} → J.Took x t ≡ judge_at s (word_of_bytes (get_or bytes 0 0) (get_or bytes 1 0) (get_or bytes 2 0) (get_or bytes 3 0))
+        → ◌≡◌ {A = Page} (text', k') (put (text, k) (text_of (record_lines x (read_from t (words_of_bytes behind)).items))) → m ≡ filler_in x → i' ≡ i + 4
+        → Left text₀ at r text' k' (n + m) i' (read_from t (words_of_bytes behind))
+    left_took e p f g = rw g (left_less (left_word e) p f)
 
     -- and it is no filler
-    pub left_known : {text' : List ℕ} {k' : ℕ} {t : Scan} → Went s word (take (length bytes - (i + 4)) (drop (i + 4) bytes)) text k k' t 0 text'
-        → Left text₀ at r text' k' n (i + 4) (read_from t (words_of_bytes (drop (i + 4) bytes)))
-    left_known w = rw (add-zero n) at (left_on refl w)
+    pub left_known : {word : ℕ} {t : Scan} {text' : List ℕ} {k' i' : ℕ} → word ≡ word_of_bytes (get_or bytes 0 0) (get_or bytes 1 0) (get_or bytes 2 0) (get_or bytes 3 0)
+        → Went s word behind text k k' t 0 text' → i' ≡ i + 4 → Left text₀ at r text' k' n i' (read_from t (words_of_bytes behind))
+    left_known e w g = rw (add-zero n) at (left_took (w.judged ∙ ap (judge_at s) e) w.page w.filler g)
 
-    -- the block ends before it, with the text as it is
-    pub left_last : {o : Out} {b : Block} {text₁ text' text'' : List ℕ} → text₁ ≡ text → (text' ≡ text₁) × ((on : Scan → Reading) → on_judged (judge_at s word) s.place on ≡ just o)
-        → BlockSays text' k (fill_lines n ++ out_lines o) i o b text'' → ReadingSays text₀ at r b text''
-    left_last d e says = left_none (left_is (left_word refl) (e.1 _)) (rw (e.0 ∙ d) at says)
+    -- it is refused, or the block ends before it
+    pub left_last : {j : Judged} {o : Out} {c : Block} {text' : List ℕ} → j ≡ judge_at s (word_of_bytes (get_or bytes 0 0) (get_or bytes 1 0) (get_or bytes 2 0) (get_or bytes 3 0))
+        → on_judged j s.place (λ t. read_from t (words_of_bytes behind)) ≡ just o → BlockSays text k (fill_lines n ++ out_lines o) i o c text' → ReadingSays text₀ at r c text'
+    left_last e f says = left_none (left_is (left_word e) f) says
 
 -- ---- a block's end, put by its number
 

@@ -37,6 +37,11 @@ from_first : (bytes : List ℕ) (s : Scan) {j : Judged} → 4 ≤ length bytes �
     → read_from s (words_of_bytes bytes) ≡ on_judged j s.place (λ t. read_from t (words_of_bytes (drop 4 bytes)))
 from_first bytes s h e = read_at bytes 0 s h refl e refl
 
+pub read_first : (bytes : List ℕ) (s : Scan) {j : Judged} → 4 ≤ length bytes
+    → j ≡ judge_at s (word_of_bytes (get_or bytes 0 0) (get_or bytes 1 0) (get_or bytes 2 0) (get_or bytes 3 0))
+    → read_from s (words_of_bytes bytes) ≡ on_judged j s.place (λ t. read_from t (words_of_bytes (drop 4 bytes)))
+read_first bytes s h e = from_first bytes s h (e ∙ ap (λ (l : List ℕ). judge_at s (get_or l 0 0)) (sym (words_some bytes h)))
+
 -- a second time word, one word ahead
 pub second_none : (bytes : List ℕ) (s : Scan) → length bytes < 4 → second_of (read_from s (words_of_bytes bytes)).items ≡ None
 unfolding read_from
@@ -71,17 +76,13 @@ module _ (rest : List ℕ) (s : Scan) (p : Page) where
   cells_none h = cells_done p _ (ap (λ (l : List ℕ). scalers_in (read_from s l).items) (words_none rest h))
 
   module _ (h : 4 ≤ length rest) where
-    here : {j : Judged} → j ≡ judge_at s (word_of_bytes (get_or rest 0 0) (get_or rest 1 0) (get_or rest 2 0) (get_or rest 3 0))
-        → read_from s (words_of_bytes rest) ≡ on_judged j s.place (λ t. read_from t (words_of_bytes (drop 4 rest)))
-    here e = from_first rest s h (e ∙ ap (λ (l : List ℕ). judge_at s (get_or l 0 0)) (sym (words_some rest h)))
-
     -- a word of the scalers is put
     pub cells_went : (r : ScalerWord) (u : Scan) (q : Page) (behind : List ℕ) → behind ≡ drop 4 rest
         → J.Took (I.Scaler r) u ≡ judge_at s (word_of_bytes (get_or rest 0 0) (get_or rest 1 0) (get_or rest 2 0) (get_or rest 3 0))
         → q ≡ put p (9 ∷ cell_text (Number r.value))
         → put p (scaler_cells (read_from s (words_of_bytes rest)).items) ≡ put q (scaler_cells (read_from u (words_of_bytes behind)).items)
     cells_went r u q behind b e f =
-        ap (λ (y : Reading). put p (scaler_cells y.items)) (here e)
+        ap (λ (y : Reading). put p (scaler_cells y.items)) (read_first rest s h e)
         ∙ cells_turn p q r.value _ f
         ∙ ap (λ (l : List ℕ). put q (scaler_cells (read_from u (words_of_bytes l)).items)) (sym b)
 
@@ -89,14 +90,14 @@ module _ (rest : List ℕ) (s : Scan) (p : Page) where
     pub cells_other : (x : Item) (u : Scan) → ((xs : List Item) → [] ≡ scalers_in (x ∷ xs))
         → J.Took x u ≡ judge_at s (word_of_bytes (get_or rest 0 0) (get_or rest 1 0) (get_or rest 2 0) (get_or rest 3 0))
         → put p (scaler_cells (read_from s (words_of_bytes rest)).items) ≡ p
-    cells_other x u z e = ap (λ (y : Reading). put p (scaler_cells y.items)) (here e) ∙ cells_done p _ (sym (z _))
+    cells_other x u z e = ap (λ (y : Reading). put p (scaler_cells y.items)) (read_first rest s h e) ∙ cells_done p _ (sym (z _))
 
     pub cells_refused : (n k : ℕ) → J.Refused n k ≡ judge_at s (word_of_bytes (get_or rest 0 0) (get_or rest 1 0) (get_or rest 2 0) (get_or rest 3 0))
         → put p (scaler_cells (read_from s (words_of_bytes rest)).items) ≡ p
-    cells_refused n k e = ap (λ (y : Reading). put p (scaler_cells y.items)) (here e) ∙ cells_done p _ refl
+    cells_refused n k e = ap (λ (y : Reading). put p (scaler_cells y.items)) (read_first rest s h e) ∙ cells_done p _ refl
 
     pub cells_ended : J.Ended ≡ judge_at s (word_of_bytes (get_or rest 0 0) (get_or rest 1 0) (get_or rest 2 0) (get_or rest 3 0))
         → put p (scaler_cells (read_from s (words_of_bytes rest)).items) ≡ p
-    cells_ended e = ap (λ (y : Reading). put p (scaler_cells y.items)) (here e) ∙ cells_done p _ refl
+    cells_ended e = ap (λ (y : Reading). put p (scaler_cells y.items)) (read_first rest s h e) ∙ cells_done p _ refl
 
 pub ruleset cells_ahead = (cells_none, cells_refused, cells_ended)
