@@ -47,23 +47,13 @@ number_inj a b e = ap refusal_in (told_inj (Err a) (Err b) e)
 
 -- a refusal's number is not that of none
 pub number_some : (r : Refusal) → eqb (number_of r) 0 ≡ false
-number_some Setting = refl
-number_some Store = refl
-number_some Sample = refl
-number_some Channel = refl
-number_some Length = refl
-number_some Posted = refl
-number_some Turn = refl
-number_some Number = refl
-number_some Room = refl
-number_some State = refl
-number_some Missing = refl
-number_some Unallowed = refl
-number_some Bits = refl
-number_some Count = refl
-number_some Slot = refl
-number_some Bytes = refl
-number_some Frames = refl
+number_some r = go (eqb (number_of r) 0) refl
+  where
+    go : (b : Bool) → eqb (number_of r) 0 ≡ b → b ≡ false
+    go true e =
+        let same : ◌≡◌ {A = Outcome} (Err r) (Ok tt) = told_inj (Err r) (Ok tt) (eqb-true _ _ e) in
+        cc
+    go false e = refl
 
 -- an answer of that value where it is not refused
 abbrev with_value : {A : Type 0} → A → Outcome → Result A Refusal
