@@ -11,7 +11,7 @@ ghost use Rattle.refusing.specs.Tables.{open_block_number, open_event_number, po
 use block::end_short;
 use items::put::room_short;
 use refusals::Refusal;
-use state::State;
+use state::{Phase, State};
 use state::ranges::{
     between_ok, block_ok, common_ok, during_ok, event_ok, head_words, idle_ok, is_block, is_event,
     is_idle, state_ok,
@@ -37,19 +37,16 @@ fn out_of_turn(s: State) -> Result<(), Refusal>
 pub fn open_block_check(s: State, room: usize, number: u32, events: u32) -> Result<(), Refusal>
     ensures { told result ≡ open_block_number s room number events }
 {
-    let phase = s.phase;
-    let settings = s.settings;
-    if !is_idle(phase) {
+    if s.phase != Phase::Idle {
         return out_of_turn(s);
     }
-    let good = common_ok(s);
-    if !good | !idle_ok(s) {
+    if !common_ok(s) | !idle_ok(s) {
         return Err(Refusal::State);
     }
     if !block_ok(number, events) {
         return Err(Refusal::Number);
     }
-    if room_short(room, s.words, head_words(settings.parameters)) {
+    if room_short(room, s.words, head_words(s.settings.parameters)) {
         return Err(Refusal::Room);
     }
     Ok(())
