@@ -1,5 +1,5 @@
 -- Where a line is written without a test at each byte. Assumes nothing.
-use Rattle.std.specs.Prelude.{ℕ, ◌-◌, Bool, false, cond, ◌&&◌, List, leb, length}
+use Rattle.std.specs.Prelude.{ℕ, ◌-◌, Bool, false, cond, ◌&&◌, List, leb, length, replicate}
 use Rattle.std.specs.declared.option.Option.{Option}
 use Rattle.std.specs.declared.option.Option.TheVariants.{Some, None}
 use Rattle.written.specs.Page.{Page, put}
@@ -19,3 +19,7 @@ written_of p name cells dashes =
     cond (has_room (length p.0) p.1 (length name) (length cells))
     (on_to (put p (line_text (line_of name (cells_of dashes cells)))))
     (p.0, None)
+
+-- a page that has room for any cell
+abbrev pub aside_page : Page
+aside_page = (replicate 21 0, 0)

@@ -5,7 +5,7 @@ ghost use Rattle.std.specs.Prelude.{◌+◌, ◌*◌, ◌≤◌, ◌<◌, ◌≡
 ghost use Rattle.io.specs.Digits.{last_digits};
 ghost use Rattle.written.specs.Page.{put};
 ghost use Rattle.written.specs.Line.{decimal, cell_of, cell_text, cells_of, cells_text, line_of, line_text};
-ghost use Rattle.written.specs.Room.{has_room, written_of};
+ghost use Rattle.written.specs.Room.{has_room, written_of, aside_page};
 
 const TAB: u8 = 9;
 
@@ -14,6 +14,14 @@ const LINE_FEED: u8 = 10;
 const DASH: u8 = 45;
 
 const ZERO: u8 = 48;
+
+// A cell behind its tab, on a page of its own, and its length. It stays an array and a count: text of the library would be
+// looked through as UTF-8 at each cell, and a `Vec` wants a heap.
+#[derive(Clone, Copy)]
+pub struct Aside {
+    pub bytes: [u8; 21],
+    pub count: usize,
+}
 
 // Every writer has this contract: the page before, the bytes put, the page after. One that is named write_ asks for room, and
 // tells how far it came; it tests nothing.
@@ -130,10 +138,10 @@ pub fn line(text: &mut [u8], at: usize, name: &[u8], cells: &[u64], dashes: u32)
     }
 }
 
-// A cell, in a lent buffer that has room for any.
-pub fn cell(buffer: &mut [u8; 21], dash: bool, n: u64) -> &[u8]
-    ensures { result.now ≡ 9 ∷ cell_text (cell_of dash n) }
+pub fn cell(dash: bool, n: u64) -> Aside
+    ensures { ((result.bytes, result.count) ≡ put aside_page (9 ∷ cell_text (cell_of dash n))) × (result.count ≤ 21) }
 {
-    let count = write_cell(buffer, 0, dash, n);
-    &buffer[..count]
+    let mut bytes = [0u8; 21];
+    let count = write_cell(&mut bytes, 0, dash, n);
+    Aside { bytes, count }
 }
