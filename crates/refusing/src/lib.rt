@@ -11,7 +11,7 @@ ghost use Rattle.refusing.specs.Tables.{open_block_number, open_event_number, po
 use block::end_short;
 use items::put::room_short;
 use refusals::Refusal;
-use state::{Phase, State};
+use state::State;
 use state::ranges::{
     between_ok, block_ok, common_ok, during_ok, event_ok, head_words, idle_ok, is_block, is_event,
     is_idle, state_ok,
@@ -37,7 +37,7 @@ fn out_of_turn(s: State) -> Result<(), Refusal>
 pub fn open_block_check(s: State, room: usize, number: u32, events: u32) -> Result<(), Refusal>
     ensures { told result ≡ open_block_number s room number events }
 {
-    if s.phase != Phase::Idle {
+    if !is_idle(s.phase) {
         return out_of_turn(s);
     }
     if !common_ok(s) | !idle_ok(s) {
@@ -55,12 +55,10 @@ pub fn open_block_check(s: State, room: usize, number: u32, events: u32) -> Resu
 pub fn open_event_check(s: State, number: u32, time: u64) -> Result<(), Refusal>
     ensures { told result ≡ open_event_number s number time }
 {
-    let phase = s.phase;
-    if !is_block(phase) {
+    if !is_block(s.phase) {
         return out_of_turn(s);
     }
-    let good = common_ok(s);
-    if !good | !between_ok(s) {
+    if !common_ok(s) | !between_ok(s) {
         return Err(Refusal::State);
     }
     if !(s.closed < s.events) {
@@ -76,26 +74,22 @@ pub fn open_event_check(s: State, number: u32, time: u64) -> Result<(), Refusal>
 pub fn post_check(s: State, room: usize, channel: usize, window: &[u16]) -> Result<(), Refusal>
     ensures { told result ≡ post_number s room channel window.now }
 {
-    let phase = s.phase;
-    let settings = s.settings;
-    let posted = s.posted;
-    if !is_event(phase) {
+    if !is_event(s.phase) {
         return out_of_turn(s);
     }
-    let good = common_ok(s);
-    if !good | !during_ok(s) {
+    if !common_ok(s) | !during_ok(s) {
         return Err(Refusal::State);
     }
     if 15 < channel {
         return Err(Refusal::Channel);
     }
-    if window.len() != settings.nw {
+    if window.len() != s.settings.nw {
         return Err(Refusal::Length);
     }
-    if posted[channel] {
+    if s.posted[channel] {
         return Err(Refusal::Posted);
     }
-    if store_short(room, settings.nw) {
+    if store_short(room, s.settings.nw) {
         return Err(Refusal::Store);
     }
     if !samples::samples_ok(window) {
@@ -108,20 +102,16 @@ pub fn post_check(s: State, room: usize, channel: usize, window: &[u16]) -> Resu
 pub fn close_check(s: State, store: &[u16]) -> Result<(), Refusal>
     ensures { told result ≡ before_room s store.now }
 {
-    let phase = s.phase;
-    let settings = s.settings;
-    let posted = s.posted;
-    if !is_event(phase) {
+    if !is_event(s.phase) {
         return out_of_turn(s);
     }
-    let good = common_ok(s);
-    if !good | !during_ok(s) {
+    if !common_ok(s) | !during_ok(s) {
         return Err(Refusal::State);
     }
-    if store_short(store.len(), settings.nw) {
+    if store_short(store.len(), s.settings.nw) {
         return Err(Refusal::Store);
     }
-    if !rows::rows_ok(settings, &posted, store) {
+    if !rows::rows_ok(s.settings, &s.posted, store) {
         return Err(Refusal::Sample);
     }
     Ok(())
@@ -130,19 +120,16 @@ pub fn close_check(s: State, store: &[u16]) -> Result<(), Refusal>
 pub fn finish_check(s: State, room: usize) -> Result<(), Refusal>
     ensures { told result ≡ finish_number s room }
 {
-    let phase = s.phase;
-    let settings = s.settings;
-    if !is_block(phase) {
+    if !is_block(s.phase) {
         return out_of_turn(s);
     }
-    let good = common_ok(s);
-    if !good | !between_ok(s) {
+    if !common_ok(s) | !between_ok(s) {
         return Err(Refusal::State);
     }
     if s.closed != s.events {
         return Err(Refusal::Turn);
     }
-    if end_short(room, s.words, settings) {
+    if end_short(room, s.words, s.settings) {
         return Err(Refusal::Room);
     }
     Ok(())
