@@ -6,8 +6,8 @@ use Rattle.ground.specs.Splice.{splice}
 use Rattle.ground.specs.ResultLaws.{one_result}
 use Rattle.copies.specs.Copies.{pasted}
 use Rattle.records.specs.declared.answer.Record.{Record}
-use Rattle.records.specs.declared.answer.Next.{Next}
-use Rattle.records.specs.declared.answer.Next.TheVariants as N
+use Rattle.records.specs.NextOf.{Next}
+use Rattle.records.specs.NextOf as N
 use Rattle.records.specs.Next.{next_at}
 use Rattle.scan.specs.declared.Scan.{Scan}
 use Rattle.cursors.specs.Cursors.{is_scan, scan_from, scan_stored}
