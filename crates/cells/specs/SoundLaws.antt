@@ -26,8 +26,8 @@ use Rattle.rawitems.specs.Pairs.{pairs_from}
 use Rattle.follow.specs.Follow.{on_high, high_from}
 use Rattle.records.specs.declared.answer.Record.{Record}
 use Rattle.records.specs.declared.answer.Record.TheVariants as R
-use Rattle.records.specs.declared.answer.Next.{Next}
-use Rattle.records.specs.declared.answer.Next.TheVariants as N
+use Rattle.records.specs.NextOf.{Next}
+use Rattle.records.specs.NextOf as N
 use Rattle.records.specs.Next.{with_pairs, with_high, time_from, record_from, from_judged, next_from, next_at}
 use Rattle.cells.specs.CellsLaws.{TimeSound}
 

@@ -23,7 +23,7 @@ use rawitems::Pairs;
 use records::answer::Record;
 
 // A second time word's bits begin at bit 24 of the time.
-const BIT_24: u64 = 16777216;
+const BIT_24: u64 = 1 << 24;
 
 // The kinds of record; of those that stand for none see `ends`.
 const BLOCK: u64 = 1;
@@ -63,19 +63,33 @@ const SCALER: u64 = 18;
 fn block_numbers(r: BlockHeader) -> [u64; RECORD]
     ensures { result ≡ record_numbers (Record.Block r) }
 {
-    [BLOCK, r.slot as u64, r.number as u64, r.events as u64, 0, 0]
+    [
+        BLOCK,
+        u64::from(r.slot),
+        u64::from(r.number),
+        u64::from(r.events),
+        0,
+        0,
+    ]
 }
 
 fn parameters_numbers(r: Parameters) -> [u64; RECORD]
     ensures { result ≡ record_numbers (Record.Parameters r) }
 {
-    [PARAMETERS, r.pl as u64, r.nsb as u64, r.nsa as u64, 0, 0]
+    [
+        PARAMETERS,
+        u64::from(r.pl),
+        u64::from(r.nsb),
+        u64::from(r.nsa),
+        0,
+        0,
+    ]
 }
 
 fn event_numbers(r: EventHeader) -> [u64; RECORD]
     ensures { result ≡ record_numbers (Record.Event r) }
 {
-    [EVENT, r.slot as u64, r.number as u64, 0, 0, 0]
+    [EVENT, u64::from(r.slot), u64::from(r.number), 0, 0, 0]
 }
 
 // One time word: the low 27 bits.
@@ -84,7 +98,7 @@ fn time27_numbers(r: TriggerTime) -> [u64; RECORD]
 {
     [
         TIME_27,
-        (r.middle as u64) * BIT_24 + r.low as u64,
+        u64::from(r.middle) * BIT_24 + u64::from(r.low),
         0,
         0,
         0,
@@ -98,7 +112,7 @@ fn time48_numbers(r: TriggerTime, second: TriggerTimeHigh) -> [u64; RECORD]
 {
     [
         TIME_48,
-        (second.high as u64) * BIT_24 + r.low as u64,
+        u64::from(second.high) * BIT_24 + u64::from(r.low),
         0,
         0,
         0,
@@ -109,7 +123,7 @@ fn time48_numbers(r: TriggerTime, second: TriggerTimeHigh) -> [u64; RECORD]
 fn high_numbers(r: TriggerTimeHigh) -> [u64; RECORD]
     ensures { result ≡ record_numbers (Record.TimeHigh r) }
 {
-    [TIME_HIGH, r.high as u64, 0, 0, 0, 0]
+    [TIME_HIGH, u64::from(r.high), 0, 0, 0, 0]
 }
 
 fn window_numbers(r: WindowRaw, pairs: Pairs) -> [u64; RECORD]
@@ -117,11 +131,11 @@ fn window_numbers(r: WindowRaw, pairs: Pairs) -> [u64; RECORD]
 {
     [
         WINDOW,
-        r.channel as u64,
+        u64::from(r.channel),
         0,
-        r.width as u64,
-        pairs.place as u64,
-        pairs.count as u64,
+        u64::from(r.width),
+        u64::from(pairs.place),
+        u64::from(pairs.count),
     ]
 }
 
@@ -130,11 +144,11 @@ fn pulse_raw_numbers(r: PulseRaw, part: Pairs) -> [u64; RECORD]
 {
     [
         PULSE_RAW,
-        r.channel as u64,
-        r.pulse as u64,
-        r.tc as u64,
-        part.place as u64,
-        part.count as u64,
+        u64::from(r.channel),
+        u64::from(r.pulse),
+        u64::from(r.tc),
+        u64::from(part.place),
+        u64::from(part.count),
     ]
 }
 
@@ -143,10 +157,10 @@ fn pair_numbers(r: SamplePair) -> [u64; RECORD]
 {
     [
         PAIR,
-        r.first as u64,
-        r.second as u64,
-        r.nofirst as u64,
-        r.nosecond as u64,
+        u64::from(r.first),
+        u64::from(r.second),
+        u64::from(r.nofirst),
+        u64::from(r.nosecond),
         0,
     ]
 }
@@ -156,10 +170,10 @@ fn integral_numbers(r: PulseIntegral) -> [u64; RECORD]
 {
     [
         INTEGRAL,
-        r.channel as u64,
-        r.pulse as u64,
-        r.quality as u64,
-        r.sum as u64,
+        u64::from(r.channel),
+        u64::from(r.pulse),
+        u64::from(r.quality),
+        u64::from(r.sum),
         0,
     ]
 }
@@ -169,11 +183,11 @@ fn time_numbers(r: PulseTime) -> [u64; RECORD]
 {
     [
         TIME,
-        r.channel as u64,
-        r.pulse as u64,
-        r.quality as u64,
-        r.coarse as u64,
-        r.fine as u64,
+        u64::from(r.channel),
+        u64::from(r.pulse),
+        u64::from(r.quality),
+        u64::from(r.coarse),
+        u64::from(r.fine),
     ]
 }
 
@@ -182,43 +196,50 @@ fn pedestal_numbers(r: PulsePedestal) -> [u64; RECORD]
 {
     [
         PEDESTAL,
-        r.channel as u64,
-        r.pulse as u64,
+        u64::from(r.channel),
+        u64::from(r.pulse),
         0,
-        r.vmin as u64,
-        r.vpeak as u64,
+        u64::from(r.vmin),
+        u64::from(r.vpeak),
     ]
 }
 
 fn trailer_numbers(r: BlockTrailer) -> [u64; RECORD]
     ensures { result ≡ record_numbers (Record.Trailer r) }
 {
-    [TRAILER, r.slot as u64, r.words as u64, 0, 0, 0]
+    [TRAILER, u64::from(r.slot), u64::from(r.words), 0, 0, 0]
 }
 
 fn fillers_numbers(slot: u32, count: u32) -> [u64; RECORD]
     ensures { result ≡ record_numbers (Record.Fillers slot count) }
 {
-    [FILLERS, slot as u64, count as u64, 0, 0, 0]
+    [FILLERS, u64::from(slot), u64::from(count), 0, 0, 0]
 }
 
 fn empty_numbers(r: ModuleEmpty) -> [u64; RECORD]
     ensures { result ≡ record_numbers (Record.Empty r) }
 {
-    [EMPTY, r.slot as u64, 0, 0, 0, 0]
+    [EMPTY, u64::from(r.slot), 0, 0, 0, 0]
 }
 
 // An event's scalers: how many words they have, and the place of the first.
 fn scalers_numbers(scalers: Pairs) -> [u64; RECORD]
     ensures { result ≡ record_numbers (Record.Scalers scalers) }
 {
-    [SCALERS, 0, scalers.count as u64, 0, scalers.place as u64, 0]
+    [
+        SCALERS,
+        0,
+        u64::from(scalers.count),
+        0,
+        u64::from(scalers.place),
+        0,
+    ]
 }
 
 fn scaler_numbers(r: ScalerWord) -> [u64; RECORD]
     ensures { result ≡ record_numbers (Record.Scaler r) }
 {
-    [SCALER, r.value as u64, 0, 0, 0, 0]
+    [SCALER, u64::from(r.value), 0, 0, 0, 0]
 }
 
 // The numbers of a record.

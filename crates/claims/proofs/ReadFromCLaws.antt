@@ -12,8 +12,8 @@ use Rattle.reader.specs.Reader.{Out, Whole, Broken, Reading, just, then, read_fr
 use Rattle.reader.specs.RunLaws.{before, check_reads}
 use Rattle.records.specs.declared.answer.Record.{Record}
 use Rattle.records.specs.declared.answer.Record.TheVariants as R
-use Rattle.records.specs.declared.answer.Next.{Next}
-use Rattle.records.specs.declared.answer.Next.TheVariants as N
+use Rattle.records.specs.NextOf.{Next}
+use Rattle.records.specs.NextOf as N
 use Rattle.records.specs.Next.{Made, next_at}
 use Rattle.records.specs.NextLaws.{Taken, SaysNext, next_says}
 use Rattle.records.specs.AnswersLaws.{next_answers}

@@ -17,8 +17,8 @@ use Rattle.scan.specs.declared.Scan.{Scan}
 use Rattle.rawitems.specs.declared.Pairs.{Pairs}
 use Rattle.records.specs.declared.answer.Record.{Record}
 use Rattle.records.specs.declared.answer.Record.TheVariants as R
-use Rattle.records.specs.declared.answer.Next.{Next}
-use Rattle.records.specs.declared.answer.Next.TheVariants as N
+use Rattle.records.specs.NextOf.{Next}
+use Rattle.records.specs.NextOf as N
 use Rattle.rawitems.specs.Pairs.{part_of}
 use Rattle.records.specs.Next.{starts_pair, PairsMade, ScalersMade, Made, OfRaw, next_from, next_at}
 use Rattle.records.specs.NextLaws.{SaysNext, next_says}

@@ -6,8 +6,8 @@ use Rattle.scan.specs.declared.Scan.{Scan}
 use Rattle.reader.specs.Reader.{Whole, read_from, check_from}
 use Rattle.reader.specs.RunLaws.{before}
 use Rattle.records.specs.declared.answer.Record.{Record}
-use Rattle.records.specs.declared.answer.Next.{Next}
-use Rattle.records.specs.declared.answer.Next.TheVariants as N
+use Rattle.records.specs.NextOf.{Next}
+use Rattle.records.specs.NextOf as N
 use Rattle.records.specs.Next.{Made}
 use Rattle.records.specs.Answers.{NextSays}
 use Rattle.bytecheck.specs.Check.{number_of_out}

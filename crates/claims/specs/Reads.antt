@@ -7,7 +7,7 @@ use Rattle.scan.specs.declared.Scan.{Scan}
 use Rattle.rawitems.specs.declared.Pairs.{Pairs}
 use Rattle.records.specs.declared.answer.Record.{Record}
 use Rattle.records.specs.declared.answer.Record.TheVariants as R
-use Rattle.records.specs.declared.answer.Next.TheVariants as N
+use Rattle.records.specs.NextOf as N
 use Rattle.rawitems.specs.Pairs.{part_of}
 use Rattle.records.specs.Next.{next_at, starts_pair, Made, OfRaw}
 

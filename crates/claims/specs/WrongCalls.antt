@@ -4,7 +4,7 @@ use Rattle.fields.specs.Bytes.{words_of_bytes}
 use Rattle.scan.specs.declared.Scan.{Scan}
 use Rattle.scan.specs.After.{start_of}
 use Rattle.records.specs.declared.answer.Record.{Record}
-use Rattle.records.specs.declared.answer.Next.TheVariants as N
+use Rattle.records.specs.NextOf as N
 use Rattle.records.specs.Next.{next_at}
 use Rattle.layout.specs.Wrong.{questions, WrongAt, stop_of}
 

@@ -9,7 +9,7 @@ use Rattle.scan.specs.declared.Scan.{Scan}
 use Rattle.scan.specs.After.{start_of}
 use Rattle.reader.specs.Reader.{Out, Whole, Broken, out_of, Reading, read_from, check_from}
 use Rattle.reader.specs.RunLaws.{before, check_reads}
-use Rattle.records.specs.declared.answer.Next.TheVariants as N
+use Rattle.records.specs.NextOf as N
 use Rattle.records.specs.Next.{next_at}
 use Rattle.records.specs.NextLaws.{Taken, SaysNext, next_says}
 use Rattle.bytecheck.specs.Check.{number_of_out, check_number}

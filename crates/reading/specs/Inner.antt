@@ -1,6 +1,6 @@
 -- What the inner functions say. Assumes nothing.
 use Rattle.std.specs.Prelude.{ℕ, ◌≡◌, List}
-use Rattle.records.specs.declared.answer.Next.{Next}
+use Rattle.records.specs.NextOf.{Next}
 use Rattle.reading.specs.Reading.{room_for, told_by, scan_left, record_of, record_stored}
 
 -- what a call on a scan leaves of what it read

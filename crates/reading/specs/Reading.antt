@@ -2,8 +2,8 @@
 use Rattle.std.specs.Prelude.{ℕ, ◌+◌, ◌*◌, ◌^◌, ◌≡◌, Bool, cond, List, leb, length}
 use Rattle.ground.specs.Splice.{splice}
 use Rattle.refusals.specs.Refusal.{bad_array}
-use Rattle.records.specs.declared.answer.Next.{Next}
-use Rattle.records.specs.declared.answer.Next.TheVariants as N
+use Rattle.records.specs.NextOf.{Next}
+use Rattle.records.specs.NextOf as N
 use Rattle.records.specs.Next.{next_at}
 use Rattle.cursors.specs.Cursors.{is_scan, scan_from, scan_stored}
 use Rattle.ends.specs.Ends.{record_count, end_numbers, no_numbers}

@@ -4,8 +4,10 @@
 ghost use Rattle.std.specs.Prelude.{◌≡◌};
 ghost use Rattle.ends.specs.Ends.{no_numbers};
 ghost use Rattle.reading.specs.Reading.{room_for, told_by, record_of, record_stored, NextFace};
+ghost use Rattle.records.specs.NextOf.{next_of};
 ghost use Rattle.reading.specs.Inner.{Told};
 
+use reader::Refused;
 use records::answer::{Next, Record};
 use scan::Scan;
 
@@ -22,7 +24,7 @@ fn clear(out: &mut [u64])
 
 // A record: with room for it, the scan moves behind it.
 fn took(numbers: &mut [u32], out: &mut [u64], x: Record, after: Scan) -> u64
-    ensures { Told numbers.old out.old (Next.Took x after) result numbers.new out.new }
+    ensures { Told numbers.old out.old (next_of (Ok (Next.Took x after))) result numbers.new out.new }
 {
     if out.len() < ends::RECORD {
         return BAD_ANSWER;
@@ -30,36 +32,36 @@ fn took(numbers: &mut [u32], out: &mut [u64], x: Record, after: Scan) -> u64
     let new = cells::record_numbers(x);
     copies::put(out, 0, &new);
     cursors::put_scan(numbers, after);
-    after.place as u64
+    u64::from(after.place)
 }
 
 // The block's end: the scan stays before it.
 fn ended(out: &mut [u64], words: u32) -> u64
-    ensures { (result ≡ told_by (Next.End words) (room_for out.old)) × (out.new ≡ record_stored out.old (record_of (Next.End words))) }
+    ensures { (result ≡ told_by (next_of (Ok (Next.End words))) (room_for out.old)) × (out.new ≡ record_stored out.old (record_of (next_of (Ok (Next.End words))))) }
 {
     if out.len() < ends::RECORD {
         return BAD_ANSWER;
     }
     let end = ends::end_numbers();
     copies::put(out, 0, &end);
-    words as u64
+    u64::from(words)
 }
 
 // A refusal and its place in one number, as the check of bytes answers them.
-fn refused(out: &mut [u64], number: u32, place: u32) -> u64
-    ensures { (result ≡ told_by (Next.Refused number place) (room_for out.old)) × (out.new ≡ record_stored out.old (record_of (Next.Refused number place))) }
+fn refused(out: &mut [u64], refused: Refused) -> u64
+    ensures { (result ≡ told_by (next_of (Err refused)) (room_for out.old)) × (out.new ≡ record_stored out.old (record_of (next_of (Err refused)))) }
 {
     clear(out);
-    (number as u64) * 4294967296 + (place as u64)
+    u64::from(refused.refusal.number()) * 4294967296 + u64::from(refused.place)
 }
 
-fn tell(numbers: &mut [u32], out: &mut [u64], next: Next) -> u64
-    ensures { Told numbers.old out.old next result numbers.new out.new }
+fn tell(numbers: &mut [u32], out: &mut [u64], next: Result<Next, Refused>) -> u64
+    ensures { Told numbers.old out.old (next_of next) result numbers.new out.new }
 {
     match next {
-        Next::Took(x, after) => took(numbers, out, x, after),
-        Next::End(words) => ended(out, words),
-        Next::Refused(number, place) => refused(out, number, place),
+        Ok(Next::Took(x, after)) => took(numbers, out, x, after),
+        Ok(Next::End(words)) => ended(out, words),
+        Err(r) => refused(out, r),
     }
 }
 

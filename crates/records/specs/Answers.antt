@@ -8,8 +8,8 @@ use Rattle.reader.specs.Answers.{row_type, row_fields}
 use Rattle.scan.specs.declared.Scan.{Scan}
 use Rattle.records.specs.declared.answer.Record.{Record}
 use Rattle.records.specs.declared.answer.Record.TheVariants as R
-use Rattle.records.specs.declared.answer.Next.{Next}
-use Rattle.records.specs.declared.answer.Next.TheVariants as N
+use Rattle.records.specs.NextOf.{Next}
+use Rattle.records.specs.NextOf as N
 use Rattle.records.specs.Next.{next_at}
 
 -- the type of the row that a record is read by; a pair has none, 16

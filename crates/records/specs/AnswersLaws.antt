@@ -3,8 +3,8 @@ use Rattle.std.specs.Prelude.{ℕ, ◌≡◌, refl, List, get_or, drop}
 use Rattle.std.proofs.Common.{ap}
 use Rattle.reader.specs.Reader.{Broken, read_from}
 use Rattle.scan.specs.declared.Scan.{Scan}
-use Rattle.records.specs.declared.answer.Next.{Next}
-use Rattle.records.specs.declared.answer.Next.TheVariants as N
+use Rattle.records.specs.NextOf.{Next}
+use Rattle.records.specs.NextOf as N
 use Rattle.records.specs.Next.{next_at}
 use Rattle.records.specs.NextLaws.{SaysNext, next_says}
 use Rattle.records.specs.Answers.{next_number, next_values, NextSays}

@@ -1,17 +1,24 @@
--- Reading on at the word at a place, whose judgement is known. Assumes nothing.
-use Rattle.std.specs.Prelude.{ℕ, ◌+◌, ◌<◌, ◌≡◌, List, ◌∷◌, length, get_or, drop}
-use Rattle.std.proofs.Common.{sym, ◌∙◌, arith}
-use Rattle.std.proofs.Math.Path.{ap}
-use Rattle.reader.specs.Reader.{judge_at}
+-- Reading on at the word at the scan's place. Assumes nothing.
+use Rattle.std.specs.Prelude.{ℕ, ◌+◌, ◌-◌, ◌≤◌, ◌<◌, ◌≡◌, List, length, take, get_or, drop}
+use Rattle.std.proofs.Common.{ap, ◌∙◌, arith, drop_of_length-le, take_all, length-drop}
+use Rattle.reader.specs.Reader.{judge_at, end_number}
 use Rattle.reader.specs.RunLaws.{cons_at}
 use Rattle.scan.specs.declared.Scan.{Scan}
 use Rattle.reader.specs.Judged.{Judged}
-use Rattle.records.specs.Next.{from_judged, next_from}
+use Rattle.records.specs.Next.{from_judged, ended, next_from, next_at}
 
-module _ (words : List ℕ) (i : ℕ) (t : Scan) (h : i < length words) where
-  here : drop i words ≡ get_or words i 0 ∷ drop (i + 1) words
-  here = cons_at words i (i + 1) h (omega arith)
+-- a part that is lent, from i to the end
+pub tail_is : (words : List ℕ) (i : ℕ) → take (length words - i) (drop i words) ≡ drop i words
+tail_is words i = take_all (length words - i) (drop i words) (omega (arith, length-drop i words))
 
-  pub next_at_lem : {x y : Judged} → x ≡ judge_at t (get_or words i 0) → x ≡ y → next_from t (drop i words) ≡ from_judged y t.place (drop (i + 1) words)
-  unfolding next_from
-  next_at_lem e f = ap (next_from t) here ∙ rw (sym e ∙ f)
+module _ (words : List ℕ) (s : Scan) where
+  -- `behind` are the words behind it
+  pub next_here : {j : Judged} {behind : List ℕ} → s.place < length words → j ≡ judge_at s (get_or words s.place 0) → behind ≡ drop (s.place + 1) words
+      → next_at words s ≡ from_judged j s.place behind
+  unfolding next_at next_from
+  next_here h e b = ap (next_from s) (cons_at words s.place (s.place + 1) h (omega arith)) ∙ rw (← e, ← b)
+
+  -- there is none
+  pub next_none : length words ≤ s.place → next_at words s ≡ ended (end_number s) s.place
+  unfolding next_at next_from
+  next_none h = ap (next_from s) (drop_of_length-le words h)

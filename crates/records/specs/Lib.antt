@@ -1,3 +1,5 @@
+pub mod NextOf
+pub mod NextOfLaws
 pub mod Next
 pub mod Answers
 pub mod AtLaws

@@ -1,5 +1,5 @@
 -- Document 01, "Reading", record by record: "Each item answers one of a set of named records carrying its fields." Assumes nothing.
-use Rattle.std.specs.Prelude.{ℕ, ◌-◌, ◌^◌, ◌≤◌, min, ◌≡◌, Bool, true, false, cond, List, [], ◌∷◌, map, eqb, length, drop}
+use Rattle.std.specs.Prelude.{ℕ, ◌-◌, ◌^◌, ◌≤◌, min, ◌≡◌, Bool, true, false, cond, Some, None, List, [], ◌∷◌, map, eqb, length, drop}
 use Rattle.framing.specs.declared.trigger_time.TriggerTime.{TriggerTime}
 use Rattle.framing.specs.declared.scaler.ScalerWord.{ScalerWord}
 use Rattle.raw.specs.declared.pair.SamplePair.{SamplePair}
@@ -13,14 +13,12 @@ use Rattle.rawitems.specs.declared.Pairs.{Pairs}
 use Rattle.rawitems.specs.Pairing.{Pairing}
 use Rattle.rawitems.specs.Pairing as G
 use Rattle.rawitems.specs.Pairs.{pairs_from}
-use Rattle.follow.specs.declared.High.{High}
-use Rattle.follow.specs.declared.High.TheVariants as H
 use Rattle.follow.specs.declared.Fill.{Fill}
-use Rattle.follow.specs.Follow.{high_from, fill_from}
+use Rattle.follow.specs.Follow.{High, high_from, fill_from}
 use Rattle.records.specs.declared.answer.Record.{Record}
 use Rattle.records.specs.declared.answer.Record.TheVariants as R
-use Rattle.records.specs.declared.answer.Next.{Next}
-use Rattle.records.specs.declared.answer.Next.TheVariants as N
+use Rattle.records.specs.NextOf.{Next}
+use Rattle.records.specs.NextOf as N
 
 -- ---- a raw item
 
@@ -32,8 +30,8 @@ with_pairs make place (G.Bad r at) = N.Refused r at
 -- ---- the trigger time: "optionally one or two time words"
 
 abbrev pub with_high : TriggerTime → Scan → High → Next
-with_high r t H.Nothing = N.Took (R.Time27 r) t
-with_high r t (H.Word x u) = N.Took (R.Time48 r x) u
+with_high r t None = N.Took (R.Time27 r) t
+with_high r t (Some x) = N.Took (R.Time48 r x.0) x.1
 
 -- a first time word with the second where that follows
 abbrev pub time_from : TriggerTime → Scan → List ℕ → Next

@@ -37,13 +37,14 @@ use Rattle.reader.specs.Judged as J
 use Rattle.rawitems.specs.declared.Pairs.{Pairs}
 use Rattle.rawitems.specs.Pairing.{Pairing}
 use Rattle.rawitems.specs.Pairing as G
+use Rattle.rawitems.specs.AtLaws.{due_unfinished}
 use Rattle.rawitems.specs.Pairs.{due_by, pair_due, on_pair, pairs_from}
 use Rattle.follow.specs.declared.Fill.{Fill}
 use Rattle.follow.specs.Follow.{high_of, on_high, high_from, on_filler, fill_from}
 use Rattle.records.specs.declared.answer.Record.{Record}
 use Rattle.records.specs.declared.answer.Record.TheVariants as R
-use Rattle.records.specs.declared.answer.Next.{Next}
-use Rattle.records.specs.declared.answer.Next.TheVariants as N
+use Rattle.records.specs.NextOf.{Next}
+use Rattle.records.specs.NextOf as N
 use Rattle.records.specs.Next.{most_count, filler_at, AllAre, PairsMade, Made, is_pair, starts_pair, OfRaw, with_pairs, with_high, time_from, fillers_from, scalers_from, record_from, from_judged, next_from}
 
 -- ---- the form of an accepted word, by the scan
@@ -246,18 +247,6 @@ SaysPairs t n words (G.Bad r at) = (read_from t words).out ≡ Broken r at
 
 no_pair : (t : Scan) (n : ℕ) (words : List ℕ) → n ≤ most_count → starts_pair (read_from t words).items ≡ false → Paired t words n n t
 no_pair t n words h stop = record { pairs = []; many = omega arith; run = refl; stop = stop }
-
-due_unfinished : (p : Stage) (b : Bool) → due_by p b ≡ true → unfinished_by p ≡ true
-due_unfinished P.Start b due = refl
-due_unfinished P.Head b due = refl
-due_unfinished P.Front b due = refl
-due_unfinished P.Opened b due = refl
-due_unfinished (P.Timed d) b due = refl
-due_unfinished P.Items b due = refl
-due_unfinished (P.Window n odd) b due = refl
-due_unfinished (P.Raw n some) b due = refl
-due_unfinished (P.Tail n) b due = due
-due_unfinished (P.Scalers n) b due = refl
 
 end_broken : (s : Scan) → unfinished s ≡ true → end_of s ≡ Broken (end_number s) s.place
 unfolding end_of end_number first_of

@@ -42,10 +42,9 @@ pub enum Record {
     Scaler(ScalerWord),
 }
 
-// A record and the scan behind it; the block's end and its words; or a refusal and its place.
+// A record and the scan behind it; or the block's end and its words.
 #[derive(Clone, Copy)]
 pub enum Next {
     Took(Record, Scan),
     End(u32),
-    Refused(u32, u32),
 }

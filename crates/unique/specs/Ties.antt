@@ -31,7 +31,7 @@ use Rattle.rawsamples.proofs as rawsamples
 use Rattle.rawsamples.specs.RawSamples.{samples_of}
 use Rattle.rawsamples.specs.Says.{SamplesSay}
 use Rattle.records.proofs as records
-use Rattle.records.specs.declared.answer.Next.{Next}
+use Rattle.records.specs.NextOf.{Next}
 use Rattle.rawitems.specs.declared.Pairs.{Pairs}
 use Rattle.rawitems.specs.Pairs.{part_of}
 use Rattle.records.specs.Answers.{NextSays}

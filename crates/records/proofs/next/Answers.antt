@@ -1,28 +1,24 @@
 -- `records::next` meets its contract.
-use Rattle.std.proofs.Common.{◌+◌, ◌≡◌, sym, ap, ◌∙◌, arith, drop, drop_of_length-le}
-use Rattle.reader.specs.Judged.{Judged}
-use Rattle.records.specs.Next.{from_judged, next_from, next_at}
-use Rattle.records.specs.AtLaws.{next_at_lem}
+use Rattle.std.proofs.Common.{◌+◌, ◌≡◌, refl, ap, sym, ◌∙◌, arith, rules, Err}
+use Rattle.records.specs.NextOf.{next_of}
+use Rattle.records.specs.AtLaws.{next_here, next_none, tail_is}
 use Rattle.records.specs.AnswersLaws.{next_answers}
 use Rattle.records.proofs.next.Goals as goal
-use Rattle.records.proofs.next.Goals.{After-judge_at-judged}
 
--- what is answered of the word that was read
-judged : (c : After-judge_at-judged) {y : Judged} → c.judge_at-judged.result ≡ y → let a = c.args in next_at a.words.now a.scan ≡ from_judged y a.scan.place (drop (a.scan.place + 1) a.words.now)
-unfolding next_at
-judged c e = let a = c.args in next_at_lem a.words.now a.scan.place a.scan (omega arith) c.judge_at-judged.ensures.answer e
+pub returns-then-words-place : goal.returns-then-words-place
+returns-then-words-place c = next_answers _ _ (c.end_of.ensures ∙ sym (next_none _ _ c.if-words-place.true))
 
-pub returns-in-Took : goal.returns-in-Took
-returns-in-Took c = next_answers _ _ (c.record_from.ensures ∙ sym (judged (goal.at.returns-in-Took c).After-judge_at-judged c.in-Took.is))
+pub returns-in_err-item : goal.returns-in_err-item
+returns-in_err-item c =
+    let same : c.from_residual.result ≡ Err c.in_err-item.field-0.0 = search rules in
+    next_answers _ _ (ap next_of same ∙ sym (next_here _ _ (omega arith) c.in_err-item.ensures.answer refl))
 
-pub returns-in-Refused : goal.returns-in-Refused
-returns-in-Refused c = next_answers _ _ (sym (judged (goal.at.returns-in-Refused c).After-judge_at-judged c.in-Refused.is))
+pub returns-in-Some : goal.returns-in-Some
+returns-in-Some c =
+    let said = rw c.in-Some.is at c.in_ok-item.ensures in
+    next_answers _ _ (c.record_from.ensures ∙ sym (next_here _ _ (omega arith) said.answer (tail_is c.args.words.now (c.args.scan.place + 1))))
 
-pub returns-in-Ended : goal.returns-in-Ended
-returns-in-Ended c = next_answers _ _ (sym (judged (goal.at.returns-in-Ended c).After-judge_at-judged c.in-Ended.is))
-
-pub returns-else-at-words : goal.returns-else-at-words
-unfolding next_at next_from
-returns-else-at-words c =
-    let a = c.args in
-    next_answers _ _ (c.end_of.ensures ∙ sym (ap (next_from a.scan) (drop_of_length-le a.words.now {i = a.scan.place} (omega arith))))
+pub returns-in-None : goal.returns-in-None
+returns-in-None c =
+    let said = rw c.in-None.is at c.in_ok-item.ensures in
+    next_answers _ _ (sym (next_here _ _ (omega arith) said.answer refl))
