@@ -28,6 +28,7 @@ fn list_blocks(bytes: &[u8], text: &mut [u8]) -> usize
 {
     let mut rest = bytes;
     let mut at: usize = 0;
+    // No step of a `for`: each is as long as the block.
     while 4 <= rest.len() {
         let block = blocklines::list_block(rest, text, at);
         at = block.at;
