@@ -36,9 +36,9 @@ pub fn put_bytes(text: &mut [u8], at: usize, s: &[u8]) -> usize
 pub fn put_cell(text: &mut [u8], at: usize, dash: bool, n: u64) -> usize
     ensures { (text.new, result) ≡ put (text.old, at) (9 ∷ cell_text (cell_of dash n)) }
 {
-    let mut buffer = [0u8; 21];
-    let cell = written::cell(&mut buffer, dash, n);
-    put_bytes(text, at, cell)
+    let mut cell = [0u8; 21];
+    let count = written::cell(&mut cell, dash, n);
+    put_bytes(text, at, &cell[..count])
 }
 
 fn put_cells(text: &mut [u8], at: usize, cells: &[u64], dashes: u32) -> usize

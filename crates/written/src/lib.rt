@@ -130,10 +130,9 @@ pub fn line(text: &mut [u8], at: usize, name: &[u8], cells: &[u64], dashes: u32)
     }
 }
 
-// A cell, in a lent buffer that has room for any.
-pub fn cell(buffer: &mut [u8; 21], dash: bool, n: u64) -> &[u8]
-    ensures { result.now ≡ 9 ∷ cell_text (cell_of dash n) }
+// A cell, in front of a lent buffer that has room for any; its length.
+pub fn cell(buffer: &mut [u8; 21], dash: bool, n: u64) -> usize
+    ensures { ((buffer.new, result) ≡ put (buffer.old, 0) (9 ∷ cell_text (cell_of dash n))) × (result ≤ 21) }
 {
-    let count = write_cell(buffer, 0, dash, n);
-    &buffer[..count]
+    write_cell(buffer, 0, dash, n)
 }
