@@ -46,9 +46,8 @@ use Rattle.hostcount.specs.Face.{CountFace, LatchFace, ResetFace}
 use Rattle.hostfind.specs.Found.{FindFace}
 use Rattle.reading.specs.Reading.{NextFace}
 use Rattle.listing.proofs as listing
-use Rattle.listing.specs.declared.Listed.{Listed}
 use Rattle.listing.specs.Listing.{listing_of, long_listing_of}
-use Rattle.listing.specs.Says.{ListSays, LongSays, LengthSays}
+use Rattle.listing.specs.Says.{Listed, ListSays, LongSays, LengthSays}
 
 -- a reference to lent words, samples, bytes or numbers: `now` are those it refers to
 abbrev pub Reference : Type 0

@@ -924,7 +924,7 @@ pub line_unique : Unique written_contracts.line.ended written.line.Reads.Learnt
 line_unique κs a r s u v p q = by_page u.1 p q
 
 pub cell_unique : Unique written_contracts.cell.ended written.cell.Reads.Learnt
-cell_unique κs a r s u v p q = let e = one_result p.0 q.0 in (λ i. record { bytes = (e i).0; count = (e i).1 }, refl)
+cell_unique κs a r s u v p q = by_page u.1 p.0 q.0
 
 -- text
 pub put_bytes_unique : Unique text_contracts.put_bytes.ended text.put_bytes.Reads.Learnt
