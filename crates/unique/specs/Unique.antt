@@ -95,6 +95,8 @@ use Rattle.items.proofs.Item as Item
 use Rattle.items.specs.contracts.Item as ItemContracts
 use Rattle.refusals.proofs as refusals
 use Rattle.refusals.specs.contracts as refusals_contracts
+use Rattle.refusals.proofs.Refusal as Refusal
+use Rattle.refusals.specs.contracts.Refusal as RefusalContracts
 use Rattle.samples.proofs as samples
 use Rattle.samples.specs.contracts as samples_contracts
 use Rattle.settings.proofs as settings
@@ -516,14 +518,8 @@ fixed_unique κs a r s u v p q = by_equation p q
 -- ---- settings and finder
 
 -- refusals
-pub number_unique : Unique refusals_contracts.number.ended refusals.number.Reads.Learnt
+pub number_unique : Unique RefusalContracts.number.ended Refusal.number.Reads.Learnt
 number_unique κs a r s u v p q = by_equation p q
-
-pub accepted_unique : Unique refusals_contracts.accepted.ended refusals.accepted.Reads.Learnt
-accepted_unique κs a r s u v p q = by_equation p q
-
-pub or_bad_array_unique : Unique refusals_contracts.or_bad_array.ended refusals.or_bad_array.Reads.Learnt
-or_bad_array_unique κs a r s u v p q = by_equation p q
 
 -- samples
 pub amplitude_unique : Unique samples_contracts.amplitude.ended samples.amplitude.Reads.Learnt
@@ -850,12 +846,6 @@ fadc250_check_unique κs a r s u v p q = by_equation p q
 -- ---- from C
 
 -- copies
-pub put32_unique : Unique copies_contracts.put32.ended copies.put32.Reads.Learnt
-put32_unique κs a r s u v p q = (refl, λ i. (one_result p q i, u.1))
-
-pub put64_unique : Unique copies_contracts.put64.ended copies.put64.Reads.Learnt
-put64_unique κs a r s u v p q = (refl, λ i. (one_result p q i, u.1))
-
 -- numbers
 pub is_settings_unique : Unique places_contracts.is_settings.ended places.is_settings.Reads.Learnt
 is_settings_unique κs a r s u v p q = by_equation p q
@@ -924,7 +914,7 @@ pub line_unique : Unique written_contracts.line.ended written.line.Reads.Learnt
 line_unique κs a r s u v p q = by_page u.1 p q
 
 pub cell_unique : Unique written_contracts.cell.ended written.cell.Reads.Learnt
-cell_unique κs a r s u v p q = by_page u.1 p.0 q.0
+cell_unique κs a r s u v p q = let e = one_result p.0 q.0 in (λ i. record { bytes = (e i).0; count = (e i).1 }, refl)
 
 -- text
 pub put_bytes_unique : Unique text_contracts.put_bytes.ended text.put_bytes.Reads.Learnt
