@@ -3,8 +3,12 @@
 -- allows two results is refused. Assumes nothing.
 use Rattle.std.specs.Prelude.{ℕ, ◌≡◌, refl, Bool, List}
 use contract.Lifetimes.{Lfts}
+use denote.RattleType.{RattleType}
+use denote.Param.Laws.{Laws, IsCopy}
+use mir.Syntax.{Dict}
 use denote.Triple.Entry.{Args, Res}
 use denote.Triple.Clauses.{Ended, Lasts, AtExit, at_exit}
+use Rattle.std.specs.declared.clone.Clone.{Ghosts}
 use Rattle.ground.specs.Splice.{WrittenIf}
 use Rattle.ground.specs.ResultLaws.{one_result, one_writing}
 use Rattle.fields.proofs as fields
@@ -520,6 +524,14 @@ fixed_unique κs a r s u v p q = by_equation p q
 -- refusals
 pub number_unique : Unique RefusalContracts.number.ended Refusal.number.Reads.Learnt
 number_unique κs a r s u v p q = by_equation p q
+
+-- whatever the type of an answer's value
+module _ (T : RattleType) (L : Laws T) (C : IsCopy T) (G : Ghosts T.Denot) (D : Dict) where
+  pub told_unique : Unique (refusals_contracts.told.ended T G D) (refusals.told.Reads.Learnt T L C G D)
+  told_unique κs a r s u v p q = by_equation p q
+
+  pub told_bad_array_unique : Unique (refusals_contracts.told_bad_array.ended T G D) (refusals.told_bad_array.Reads.Learnt T L C G D)
+  told_bad_array_unique κs a r s u v p q = by_equation p q
 
 -- samples
 pub amplitude_unique : Unique samples_contracts.amplitude.ended samples.amplitude.Reads.Learnt
