@@ -6,7 +6,7 @@ use Rattle.ground.specs.Splice.{splice}
 use Rattle.ground.specs.Tests.{all_le}
 use Rattle.ground.specs.TestsLaws.{Under, under}
 use Rattle.settings.specs.declared.Settings.{Settings}
-use Rattle.refusals.specs.declared.Refusal.TheVariants as F
+use Rattle.std.specs.declared.result.Result.TheVariants.{Ok}
 use Rattle.find.specs.Call.{find_number, found_pulses}
 use Rattle.reader.specs.Reader.{Whole, Reading, read_from}
 use Rattle.scan.specs.After.{start_of}
@@ -14,8 +14,8 @@ use Rattle.reader.specs.RunLaws.{check_reads}
 use Rattle.modes.specs.Channel.{common_of, channel_items}
 use Rattle.scalers.specs.Scalers.{nothing_counted, latched_now}
 use Rattle.state.specs.declared.State.{State}
-use Rattle.writer.specs.declared.Answer.{Answer}
-use Rattle.writer.specs.declared.Finished.{Finished}
+use Rattle.writer.specs.Answer.{Answer}
+use Rattle.writer.specs.Answer.{Finished}
 use Rattle.state.specs.State.{idle, with_block, with_event, with_mark, with_closed, with_scalers}
 use Rattle.writer.specs.Calls.{OpenBlockSays, OpenEventSays, FinishSays}
 use Rattle.writer.specs.UniqueLaws.{set_up_unique, open_block_unique, open_event_unique, finish_unique}
@@ -58,7 +58,7 @@ all_calls : {r : BenchRun} {k : BenchBlock} (y : CallsOf r k) → y.left ≡ k.w
 all_calls y w n x = let s = calls_same x y in (s.1 ∙ w, ap (λ (f : Finished). f.length) s.0 ∙ n)
 
 abbrev answer : State → Answer
-answer s = record { refusal = F.None; state = s }
+answer s = record { refusal = Ok tt; state = s }
 
 -- ---- run A's block, without scalers and with them
 
@@ -101,7 +101,7 @@ calls_a =
       closed = answer (with_closed posted_a 8);
       written = take 8 block_a.words ++ replicate 2 0;
       close = record { refusal = refl; state = refl; buffer = refl };
-      finished = record { refusal = F.None; state = idle settings_a event_a.scalers; length = 10 };
+      finished = record { refusal = Ok tt; state = idle settings_a event_a.scalers; length = 10 };
       left = block_a.words;
       finish = record { refusal = refl; state = refl; size = refl; buffer = refl };
     }
@@ -126,7 +126,7 @@ calls_s =
       closed = answer (with_closed latched_a 27);
       written = take 27 block_s.words ++ replicate 1 0;
       close = record { refusal = refl; state = refl; buffer = refl };
-      finished = record { refusal = F.None; state = idle settings_a latched_a.scalers; length = 28 };
+      finished = record { refusal = Ok tt; state = idle settings_a latched_a.scalers; length = 28 };
       left = block_s.words;
       finish = record { refusal = refl; state = refl; size = refl; buffer = refl };
     }

@@ -2,7 +2,7 @@
 use Rattle.std.specs.Prelude.{ℕ, ◌-◌, ◌^◌, ◌<◌, ◌≡◌, refl, Bool, true, false, cond, List, [], ◌∷◌, ◌++◌, length, get_or, take, drop}
 use Rattle.std.proofs.Common.{sym, ap, ◌∙◌, subst, arith}
 use Rattle.ground.specs.Order.{Perm}
-use Rattle.refusals.specs.Refusal.{number_of}
+use Rattle.refusals.specs.Refusal.{told}
 use Rattle.items.specs.declared.Item.{Item}
 use Rattle.modes.specs.Channel.{common_of, channel_words}
 use Rattle.scan.specs.After.{start_of}
@@ -10,7 +10,7 @@ use Rattle.scalers.specs.declared.Scalers.{Scalers}
 use Rattle.scalers.specs.Scalers.{nothing_counted}
 use Rattle.state.specs.declared.State.{State}
 use Rattle.state.specs.State.{with_scalers}
-use Rattle.writer.specs.declared.Finished.{Finished}
+use Rattle.writer.specs.Answer.{Finished}
 use Rattle.writer.specs.Calls.{OpenEventSays, FinishSays}
 use Rattle.closing.specs.Closing.{CloseSays}
 use Rattle.block.specs.Block.{end_items}
@@ -100,14 +100,14 @@ record Ended (n words : List ℕ) (xs : List Item) (r : ℕ) (words' : List ℕ)
   run : Run (state_from n) words xs
   answer : Finished
   said : FinishSays (state_from n) words answer words'
-  accepted : number_of answer.refusal ≡ 0
+  accepted : told answer.refusal ≡ 0
   length : answer.length ≡ r
 
 ended : {n words : List ℕ} {xs : List Item} → CRun n words xs → (r : ℕ) (n' words' : List ℕ) → FinishFace n words r n' words' → r < 2 ^ 32 → Ended n words xs r words'
 ended {n} {words} {xs} run r n' words' f l =
     let i = c_run run in
     let k = finish_call n words r n' words' i.0 f in
-    let z : number_of k.answer.refusal ≡ 0 = k.said.refusal ∙ (sym (on_state_lem n _ i.0) ∙ below n words r n' words' f l) in
+    let z : told k.answer.refusal ≡ 0 = k.said.refusal ∙ (sym (on_state_lem n _ i.0) ∙ below n words r n' words' f l) in
     record { run = i.1; answer = k.answer; said = k.said; accepted = z; length = sym (done k.answer.length _ z) ∙ k.number }
 
 -- the words are those of the records, and the reader gives them back

@@ -1,7 +1,7 @@
 -- Demand 2 over the C check: a block made by our calls, passed as bytes, gets its length as the number. Assumes nothing.
 use Rattle.std.specs.Prelude.{ℕ, zero, suc, ◌*◌, ◌%◌, ◌≡◌, refl, Bool, cond, List, [], ◌∷◌, length, take}
 use Rattle.std.proofs.Common.{ap, ap₂, ◌∙◌, arith, eq-eqb}
-use Rattle.refusals.specs.Refusal.{number_of}
+use Rattle.refusals.specs.Refusal.{told}
 use Rattle.fields.specs.Bytes.{words_of_bytes}
 use Rattle.fields.proofs.BytesLaws.{bytes_back}
 use Rattle.items.specs.declared.Item.{Item}
@@ -9,7 +9,7 @@ use Rattle.scan.specs.After.{start_of}
 use Rattle.reader.specs.Reader.{check_from}
 use Rattle.bytecheck.specs.Check.{number_of_out, check_number}
 use Rattle.state.specs.declared.State.{State}
-use Rattle.writer.specs.declared.Finished.{Finished}
+use Rattle.writer.specs.Answer.{Finished}
 use Rattle.writer.specs.Calls.{FinishSays}
 use Rattle.layout.specs.NothingLost.{AllWords}
 use Rattle.claims.specs.Bytes.{bytes_of_words}
@@ -38,7 +38,7 @@ check_bytes ws h =
     ∙ ap (λ (l : List ℕ). number_of_out (check_from start_of l)) (words_back ws h)
 
 -- any run of calls, then an accepted finish; the buffer holds 32-bit words
-pub run_checked : {s : State} {words : List ℕ} {xs : List Item} → Run s words xs → (f : Finished) (words' : List ℕ) → FinishSays s words f words' → number_of f.refusal ≡ 0
+pub run_checked : {s : State} {words : List ℕ} {xs : List Item} → Run s words xs → (f : Finished) (words' : List ℕ) → FinishSays s words f words' → told f.refusal ≡ 0
     → AllWords words' → check_number (bytes_of_words (take f.length words')) ≡ f.length
 run_checked run f words' h e w =
     check_bytes (take f.length words') (words_take f.length words' w) ∙ ap number_of_out (run_checks run f words' h e)

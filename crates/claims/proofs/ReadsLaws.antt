@@ -5,7 +5,7 @@ use Rattle.std.proofs.Common.{ap₂, ◌∙◌, true≢false, arith, le-leb, dro
 use Rattle.std.proofs.Math.Bool.{cond}
 use mathlib.Core.List.{List, [], ◌∷◌, ◌++◌, map}
 use Rattle.std.proofs.Math.ListN.{length, take, drop, length-append, length-drop, length-map}
-use Rattle.refusals.specs.Refusal.{number_of}
+use Rattle.refusals.specs.Refusal.{told}
 use Rattle.framing.specs.Words.{empty, filler}
 use Rattle.items.specs.Items.{word_of, words_of, form_of, clean_of}
 use Rattle.items.specs.declared.Item.{Item}
@@ -23,7 +23,7 @@ use Rattle.rawitems.specs.Pairs.{part_of}
 use Rattle.records.specs.Next.{starts_pair, PairsMade, ScalersMade, Made, OfRaw, next_from, next_at}
 use Rattle.records.specs.NextLaws.{SaysNext, next_says}
 use Rattle.state.specs.declared.State.{State}
-use Rattle.writer.specs.declared.Finished.{Finished}
+use Rattle.writer.specs.Answer.{Finished}
 use Rattle.block.specs.Block.{end_items}
 use Rattle.writer.specs.Calls.{FinishSays}
 use Rattle.layout.specs.NothingLost.{AllWords, Spell, nothing_lost}
@@ -209,7 +209,7 @@ pub reads_whole : (words : List ℕ) (xs : List Item) (n : ℕ) → AllWords wor
 reads_whole words xs n a e = reads_spelt words xs n (subst (λ (r : Reading). Spell r.items words) e (nothing_lost start_of words a)) e
 
 -- any run of calls, then an accepted finish: `next` gives the records as they were written, and the block's length
-pub run_next : {s : State} {words : List ℕ} {xs : List Item} → Run s words xs → (f : Finished) (words' : List ℕ) → FinishSays s words f words' → number_of f.refusal ≡ 0
+pub run_next : {s : State} {words : List ℕ} {xs : List Item} → Run s words xs → (f : Finished) (words' : List ℕ) → FinishSays s words f words' → told f.refusal ≡ 0
     → Reads (take f.length words') start_of (xs ++ end_items s.settings s.words) f.length
 run_next {s} {words} {xs} run f words' h e =
     let b = run_reads_back run f words' h e in

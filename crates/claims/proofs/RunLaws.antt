@@ -9,7 +9,7 @@ use Rattle.ground.specs.SpliceLaws.{take_splice, length_splice}
 use Rattle.settings.specs.declared.Settings.{Settings}
 use Rattle.settings.specs.Ranges.{settings_ok}
 use Rattle.settings.specs.RangesLaws.{InRange, settings_in_range}
-use Rattle.refusals.specs.Refusal.{number_of, if_accepted}
+use Rattle.refusals.specs.Refusal.{told, if_accepted}
 use Rattle.framing.specs.declared.filler.Filler.{Filler}
 use Rattle.framing.specs.declared.parameters.Parameters.{Parameters}
 use Rattle.framing.specs.Words as W
@@ -21,8 +21,8 @@ use Rattle.reader.specs.RunLaws.{check_reads}
 use Rattle.reader.specs.Reader.{check_from, Reading, Whole, read_from}
 use Rattle.scan.specs.After.{start_of}
 use Rattle.state.specs.declared.State.{State}
-use Rattle.writer.specs.declared.Answer.{Answer}
-use Rattle.writer.specs.declared.Finished.{Finished}
+use Rattle.writer.specs.Answer.{Answer}
+use Rattle.writer.specs.Answer.{Finished}
 use Rattle.state.specs.State.{block_ok, state_ok, with_block, with_event, with_mark, with_closed, with_scalers}
 use Rattle.writer.specs.Calls.{FinishSays}
 use Rattle.block.specs.Block.{block_items, fillers_to, end_items}
@@ -291,7 +291,7 @@ run_leaves (not_finished {s} {words} {xs} run r words' h e) = let k = finish_ref
 -- ---- the round trip
 
 -- what any run of calls and an accepted finish write is a block of the layout
-pub run_is_tree : {s : State} {words : List ℕ} {xs : List Item} → Run s words xs → (f : Finished) (words' : List ℕ) → FinishSays s words f words' → number_of f.refusal ≡ 0
+pub run_is_tree : {s : State} {words : List ℕ} {xs : List Item} → Run s words xs → (f : Finished) (words' : List ℕ) → FinishSays s words f words' → told f.refusal ≡ 0
     → Parsed (xs ++ end_items s.settings s.words)
 run_is_tree {s} {words} {xs} run f words' h e =
     let v : Inv s words xs = run_leaves run in
@@ -306,7 +306,7 @@ pub record ReadBack (xs : List Item) (n : ℕ) (words : List ℕ) : Type 0 where
   pub read : read_from start_of (take n words) ≡ record { items = xs; out = Whole n }
 
 -- any run of calls, then an accepted finish
-pub run_reads_back : {s : State} {words : List ℕ} {xs : List Item} → Run s words xs → (f : Finished) (words' : List ℕ) → FinishSays s words f words' → number_of f.refusal ≡ 0
+pub run_reads_back : {s : State} {words : List ℕ} {xs : List Item} → Run s words xs → (f : Finished) (words' : List ℕ) → FinishSays s words f words' → told f.refusal ≡ 0
     → ReadBack (xs ++ end_items s.settings s.words) f.length words'
 run_reads_back {s} {words} {xs} run f words' h e =
     let v : Inv s words xs = run_leaves run in
@@ -324,6 +324,6 @@ run_reads_back {s} {words} {xs} run f words' h e =
     }
 
 -- the C check of the same words: the block's length, no refusal
-pub run_checks : {s : State} {words : List ℕ} {xs : List Item} → Run s words xs → (f : Finished) (words' : List ℕ) → FinishSays s words f words' → number_of f.refusal ≡ 0
+pub run_checks : {s : State} {words : List ℕ} {xs : List Item} → Run s words xs → (f : Finished) (words' : List ℕ) → FinishSays s words f words' → told f.refusal ≡ 0
     → check_from start_of (take f.length words') ≡ Whole f.length
 run_checks run f words' h e = sym (check_reads start_of (take f.length words')) ∙ ap (λ (r : Reading). r.out) (run_reads_back run f words' h e).read

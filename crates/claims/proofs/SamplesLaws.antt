@@ -4,7 +4,7 @@ use Rattle.std.proofs.Common.{sym, ap, ap₂, ◌∙◌, subst, append_assoc, ap
 use Rattle.ground.specs.Tests.{one_of}
 use Rattle.ground.specs.TestsLaws.{Under, under, and_left, and_right}
 use Rattle.settings.specs.declared.Settings.{Settings}
-use Rattle.refusals.specs.Refusal.{number_of}
+use Rattle.refusals.specs.Refusal.{told}
 use Rattle.samples.specs.Sample.{samples_ok}
 use Rattle.finder.specs.declared.Pulse.{Pulse}
 use Rattle.search.specs.Search.{any_over}
@@ -29,7 +29,7 @@ use Rattle.rows.specs.Rows.{row, rows_ok}
 use Rattle.event.specs.Event.{time_items, channels_items, event_items}
 use Rattle.tail.specs.Tail.{scaler_items, tail_items}
 use Rattle.state.specs.declared.State.{State}
-use Rattle.writer.specs.declared.Finished.{Finished}
+use Rattle.writer.specs.Answer.{Finished}
 use Rattle.block.specs.Block.{block_items, fillers_to, end_items}
 use Rattle.refusing.specs.Tables.{closing_items, close_number}
 use Rattle.writer.specs.Calls.{FinishSays}
@@ -311,7 +311,7 @@ run_sends (not_opened run number events r words' h e) = run_sends run
 run_sends (not_finished run r words' h e) = run_sends run
 
 -- any run of calls, then an accepted finish: the samples that `next` and `part` give, window by window and pulse by pulse, are those that were sent
-pub run_samples : {s : State} {words : List ℕ} {xs : List Item} (run : Run s words xs) (f : Finished) (words' : List ℕ) (h : FinishSays s words f words') (e : number_of f.refusal ≡ 0)
+pub run_samples : {s : State} {words : List ℕ} {xs : List Item} (run : Run s words xs) (f : Finished) (words' : List ℕ) (h : FinishSays s words f words') (e : told f.refusal ≡ 0)
     → samples_read (run_next run f words' h e) ≡ samples_sent run
 unfolding among
 run_samples {s} {words} {xs} run f words' h e =

@@ -2,12 +2,14 @@
 use Rattle.std.specs.Prelude.{ℕ, ◌*◌, ◌-◌, ◌^◌, ◌≤◌, ◌<◌, ◌≡◌, Bool, true, false, List, [], ◌∷◌, ◌++◌, get_or, take, drop}
 use Rattle.ground.specs.Splice.{splice}
 use Rattle.settings.specs.declared.Settings.{Settings}
-use Rattle.refusals.specs.Refusal.{number_of}
-use Rattle.find.specs.declared.FindAnswer.{FindAnswer}
-use Rattle.find.specs.Call.{FindSays}
+use Rattle.refusals.specs.Refusal.{told as number_told}
+use Rattle.std.specs.declared.result.Result.{Result}
+use Rattle.refusals.specs.declared.Refusal.{Refusal}
+use Rattle.finder.specs.declared.Pulses.{Pulses}
+use Rattle.find.specs.Call.{found_in, FindSays}
 use Rattle.items.specs.declared.Item.{Item}
-use Rattle.writer.specs.declared.Answer.{Answer}
-use Rattle.writer.specs.declared.Finished.{Finished}
+use Rattle.writer.specs.Answer.{Answer}
+use Rattle.writer.specs.Answer.{Finished}
 use Rattle.writer.specs.Calls.{SetUpSays, FinishSays}
 use Rattle.block.specs.Block.{block_items}
 use Rattle.refusing.specs.Tables.{closing_items}
@@ -28,29 +30,29 @@ use Rattle.modes.specs.Channel.{common_of}
 pub record Call (says : Answer → Type 0) (r : ℕ) (n' : List ℕ) : Type 0 where
   pub answer : Answer
   pub said : says answer
-  pub number : number_of answer.refusal ≡ r
+  pub number : number_told answer.refusal ≡ r
   pub state : Loads n' answer.state
 
 -- the same of a set up, which gives no state where it refuses
 pub record SetUpCall (settings : List ℕ) (r : ℕ) (n' : List ℕ) : Type 0 where
   pub answer : Answer
   pub said : SetUpSays (settings_from settings) answer
-  pub number : number_of answer.refusal ≡ r
+  pub number : number_told answer.refusal ≡ r
   pub state : r ≡ 0 → Loads n' answer.state
 
 -- and of a finish, which answers the refusal times 2^32, or the block's length in words
 pub record FinishCall (n words : List ℕ) (r : ℕ) (n' words' : List ℕ) : Type 0 where
   pub answer : Finished
   pub said : FinishSays (state_from n) words answer words'
-  pub number : in_high (number_of answer.refusal) answer.length ≡ r
+  pub number : in_high (number_told answer.refusal) answer.length ≡ r
   pub state : Loads n' answer.state
 
 -- and of the finder: the numbers of the pulses that it answers, which are none where it refuses
 pub record FindCall (settings : List ℕ) (c : ℕ) (w out : List ℕ) (r : ℕ) (out' : List ℕ) : Type 0 where
-  pub answer : FindAnswer
+  pub answer : Result Pulses Refusal
   pub said : FindSays (settings_from settings) c w answer
-  pub number : number_of answer.refusal ≡ r
-  pub found : out' ≡ splice out 0 (found_numbers answer.found)
+  pub number : number_told answer ≡ r
+  pub found : out' ≡ splice out 0 (found_numbers (found_in answer))
 
 -- the calls that count
 abbrev pub AsideFace : Aside → List ℕ → ℕ → List ℕ → Type 0

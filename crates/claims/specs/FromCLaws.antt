@@ -4,15 +4,19 @@ use Rattle.std.proofs.Common.{sym, ap, ap₂, ◌∙◌, subst, arith, ltb-true,
 use Rattle.ground.specs.Splice.{splice}
 use Rattle.ground.specs.Tests.{first_of, this_row}
 use Rattle.ground.specs.TestsLaws.{and_left, and_right, numbered}
+use Rattle.std.specs.declared.result.Result.{Result}
+use Rattle.std.specs.declared.result.Result.TheVariants.{Ok, Err}
 use Rattle.refusals.specs.declared.Refusal.{Refusal}
 use Rattle.refusals.specs.declared.Refusal.TheVariants as F
 use Rattle.settings.specs.Ranges.{settings_ok}
-use Rattle.refusals.specs.Refusal.{number_of, bad_array, if_accepted, or_else}
+use Rattle.refusals.specs.Refusal.{Outcome, told, bad_array, if_accepted, or_else}
 use Rattle.finder.specs.Find.{packed}
-use Rattle.find.specs.Call.{find_table, find_number, found_pulses}
+use Rattle.finder.specs.declared.Pulses.{Pulses}
+use Rattle.find.specs.Call.{find_table, find_number, found_pulses, found_in}
+use Rattle.find.specs.CallLaws.{found_none}
 use Rattle.find.proofs.RulesLaws.{find_says}
 use Rattle.state.specs.declared.State.{State}
-use Rattle.writer.specs.declared.Answer.{Answer}
+use Rattle.writer.specs.Answer.{Answer}
 use Rattle.scalers.specs.Scalers.{nothing_counted, latched_now, reset_now}
 use Rattle.state.specs.State.{state_ok, idle, blank, with_event, with_scalers}
 use Rattle.writer.specs.Calls.{OpenBlockSays, OpenEventSays, PostSays}
@@ -27,7 +31,7 @@ use Rattle.numbers.specs.On.{on_state, on_settings}
 use Rattle.host.specs.Face.{block_opened, posted, event_closed, finish_on, in_high, SetUpFace, OpenBlockFace, OpenEventFace, PostFace, CloseFace, FinishFace}
 use Rattle.hostcount.specs.Face.{CountFace, LatchFace, ResetFace}
 use Rattle.hostfind.specs.Found.{found_count, found_numbers, FindFace}
-use Rattle.refusals.specs.RefusalLaws.{none_later}
+use Rattle.refusals.specs.RefusalLaws.{none_later, number_some}
 use Rattle.hostfind.specs.FoundLaws.{found_or_zeros}
 use Rattle.numbers.specs.BackLaws.{Loads, numbers_back}
 use Rattle.host.specs.LoadsLaws.{set_up_loads, open_block_loads, open_event_loads, post_loads, close_loads, finish_loads, finish_below}
@@ -220,29 +224,29 @@ c_find_tells_none m c w out r out' f ne l = rw (c_find_refused m c w out r out' 
 -- ---- a C call on a state is the library's call
 
 -- the refusals at their numbers; 17 and 18 are no call's
-abbrev refusals : List Refusal
+abbrev refusals : List Outcome
 refusals =
-    F.None ∷ F.Setting ∷ F.Store ∷ F.Sample ∷ F.Channel ∷ F.Length ∷ F.Posted ∷ F.Turn ∷ F.Number ∷ F.Room ∷ F.State
-    ∷ F.Missing ∷ F.Unallowed ∷ F.Bits ∷ F.Count ∷ F.Slot ∷ F.Bytes ∷ F.None ∷ F.None ∷ F.Frames ∷ []
+    Ok tt ∷ Err F.Setting ∷ Err F.Store ∷ Err F.Sample ∷ Err F.Channel ∷ Err F.Length ∷ Err F.Posted ∷ Err F.Turn ∷ Err F.Number ∷ Err F.Room ∷ Err F.State
+    ∷ Err F.Missing ∷ Err F.Unallowed ∷ Err F.Bits ∷ Err F.Count ∷ Err F.Slot ∷ Err F.Bytes ∷ Ok tt ∷ Ok tt ∷ Err F.Frames ∷ []
 
-abbrev refusal_at : ℕ → Refusal
-refusal_at n = get_or refusals n F.None
+abbrev refusal_at : ℕ → Outcome
+refusal_at n = get_or refusals n (Ok tt)
 
 -- every row's number is a refusal's
 abbrev named : List (ℕ × Bool) → Bool
 named [] = true
-named (r ∷ rows) = eqb (number_of (refusal_at r.0)) r.0 && named rows
+named (r ∷ rows) = eqb (told (refusal_at r.0)) r.0 && named rows
 
 -- the refusal that a table gives
-abbrev refusal_in : List (ℕ × Bool) → Refusal
+abbrev refusal_in : List (ℕ × Bool) → Outcome
 refusal_in rows = refusal_at (first_of rows)
 
-number_in : (rows : List (ℕ × Bool)) → named rows ≡ true → number_of (refusal_in rows) ≡ first_of rows
+number_in : (rows : List (ℕ × Bool)) → named rows ≡ true → told (refusal_in rows) ≡ first_of rows
 unfolding first_of
 number_in [] h = refl
-number_in (r ∷ rows) h = go r.1 (number_in rows (and_right (eqb (number_of (refusal_at r.0)) r.0) _ h))
+number_in (r ∷ rows) h = go r.1 (number_in rows (and_right (eqb (told (refusal_at r.0)) r.0) _ h))
   where
-    go : (b : Bool) → number_of (refusal_in rows) ≡ first_of rows → number_of (refusal_at (cond b r.0 (first_of rows))) ≡ cond b r.0 (first_of rows)
+    go : (b : Bool) → told (refusal_in rows) ≡ first_of rows → told (refusal_at (cond b r.0 (first_of rows))) ≡ cond b r.0 (first_of rows)
     go true e = eqb-true _ _ (and_left _ (named rows) h)
     go false e = e
 
@@ -258,7 +262,7 @@ lent new old e h = h ∙ ap (λ (j : ℕ). if_accepted j new old) e
 -- one law for the calls on a state: the call's table, the state that it gives, and what its contract says
 made : (n : List ℕ) (rows : List (ℕ × Bool)) (new : State) {says : Answer → Type 0} {r : ℕ} {n' : List ℕ} → is_state n ≡ true → named rows ≡ true
     → r ≡ on_state n (first_of rows) → n' ≡ if_accepted r (numbers_of new) n → (0 ≡ r → Loads n' new)
-    → (number_of (refusal_in rows) ≡ first_of rows → r ≡ first_of rows → says (record { refusal = refusal_in rows; state = if_accepted (first_of rows) new (state_from n) }))
+    → (told (refusal_in rows) ≡ first_of rows → r ≡ first_of rows → says (record { refusal = refusal_in rows; state = if_accepted (first_of rows) new (state_from n) }))
     → Call says r n'
 made n rows new {r = r} e ok h p f g =
     let same : r ≡ first_of rows = h ∙ ap (λ (b : Bool). cond b (first_of rows) 10) e in
@@ -355,6 +359,19 @@ set_up_call m n r n' e l f =
       state = λ z. subst (Loads n') (sym (done _ _ (sym same ∙ z))) (set_up_loads m n n' (subst (λ (i : ℕ). SetUpFace m n i n') z f));
     }
 
+-- the finder's answer of an outcome
+abbrev with_found : Outcome → Pulses → Result Pulses Refusal
+with_found (Ok u) found = Ok found
+with_found (Err r) found = Err r
+
+told_with : (o : Outcome) (found : Pulses) → told (with_found o found) ≡ told o
+told_with (Ok u) found = refl
+told_with (Err r) found = refl
+
+found_with : (o : Outcome) (found : Pulses) → (eqb (told o) 0 ≡ false → found ≡ packed []) → found_in (with_found o found) ≡ found
+found_with (Ok u) found h = refl
+found_with (Err r) found h = sym (h (number_some r))
+
 -- the finder with the numbers of settings, and room for what it tells
 pub find_call : (m : List ℕ) (c : ℕ) (w out : List ℕ) (r : ℕ) (out' : List ℕ) → is_settings m ≡ true → found_count ≤ length out → FindFace m c w out r out' → FindCall m c w out r out'
 unfolding find_number find_table
@@ -364,9 +381,13 @@ find_call m c w out r out' e l f =
     let k : ℕ = first_of rows in
     let numbers = found_numbers (packed (found_pulses s c w)) in
     let same : r ≡ k = f.number ∙ (ap₂ (λ (a b : Bool). or_else (cond a k 1) (cond b bad_array 0)) e (le-ltb (length out) found_count l) ∙ none_later k) in
+    let found : Pulses = packed (found_pulses s c w) in
+    let number : told (with_found (refusal_in rows) found) ≡ k = told_with (refusal_in rows) found ∙ number_in rows refl in
+    let none : eqb (told (refusal_in rows)) 0 ≡ false → found ≡ packed [] = λ h. ap packed (found_none s c w (ap (λ (i : ℕ). eqb i 0) (sym (number_in rows refl)) ∙ h)) in
+    let g : found_in (with_found (refusal_in rows) found) ≡ found = found_with (refusal_in rows) found none in
     record {
-      answer = record { refusal = refusal_in rows; found = packed (found_pulses s c w) };
-      said = find_says s c w (number_in rows refl) refl;
-      number = number_in rows refl ∙ sym same;
-      found = f.numbers ∙ rw (le-ltb (length out) found_count l) (ap (splice out 0) (ap (λ (i : ℕ). if_accepted i numbers (replicate found_count 0)) same ∙ found_or_zeros s c w));
+      answer = with_found (refusal_in rows) found;
+      said = find_says s c w number g;
+      number = number ∙ sym same;
+      found = f.numbers ∙ rw (le-ltb (length out) found_count l) (ap (splice out 0) (ap (λ (i : ℕ). if_accepted i numbers (replicate found_count 0)) same ∙ found_or_zeros s c w)) ∙ ap (λ (x : Pulses). splice out 0 (found_numbers x)) (sym g);
     }

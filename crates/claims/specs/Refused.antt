@@ -3,10 +3,10 @@
 use Rattle.std.specs.Prelude.{ℕ, ◌≡◌, Bool, List}
 use Rattle.std.proofs.Common.{◌∙◌}
 use Rattle.settings.specs.declared.Settings.{Settings}
-use Rattle.refusals.specs.Refusal.{number_of, if_accepted}
+use Rattle.refusals.specs.Refusal.{told, if_accepted}
 use Rattle.state.specs.declared.State.{State}
-use Rattle.writer.specs.declared.Answer.{Answer}
-use Rattle.writer.specs.declared.Finished.{Finished}
+use Rattle.writer.specs.Answer.{Answer}
+use Rattle.writer.specs.Answer.{Finished}
 use Rattle.state.specs.State.{blank}
 use Rattle.writer.specs.Calls.{SetUpSays, OpenBlockSays, OpenEventSays, PostSays, FinishSays}
 use Rattle.closing.specs.Closing.{CloseSays}
@@ -19,41 +19,41 @@ kept : {A : Type 0} {said n : ℕ} {x old : A} → said ≡ n → (said ≡ 0 �
 kept {n = n} {old = old} e ne new is = is ∙ refused n new old (λ z. ne (e ∙ z))
 
 -- "Set up can give only 1, and returns no state."
-pub set_up_refused : (s : Settings) (r : Answer) → SetUpSays s r → (number_of r.refusal ≡ 0 → ⊥) → r.state ≡ blank
+pub set_up_refused : (s : Settings) (r : Answer) → SetUpSays s r → (told r.refusal ≡ 0 → ⊥) → r.state ≡ blank
 set_up_refused s r h ne = kept h.refusal ne _ h.state
 
 -- "Every other refusal hands back the same state; store and words stay as lent."
 pub open_block_refused : (s : State) (words : List ℕ) (number events : ℕ) (r : Answer) (words' : List ℕ) → OpenBlockSays s words number events r words'
-    → (number_of r.refusal ≡ 0 → ⊥) → (r.state ≡ s) × (words' ≡ words)
+    → (told r.refusal ≡ 0 → ⊥) → (r.state ≡ s) × (words' ≡ words)
 open_block_refused s words number events r words' h ne = (kept h.refusal ne _ h.state, kept h.refusal ne _ h.buffer)
 
-pub open_event_refused : (s : State) (number time : ℕ) (r : Answer) → OpenEventSays s number time r → (number_of r.refusal ≡ 0 → ⊥) → r.state ≡ s
+pub open_event_refused : (s : State) (number time : ℕ) (r : Answer) → OpenEventSays s number time r → (told r.refusal ≡ 0 → ⊥) → r.state ≡ s
 open_event_refused s number time r h ne = kept h.refusal ne _ h.state
 
 pub post_refused : (s : State) (store : List ℕ) (c : ℕ) (w : List ℕ) (r : Answer) (store' : List ℕ) → PostSays s store c w r store'
-    → (number_of r.refusal ≡ 0 → ⊥) → (r.state ≡ s) × (store' ≡ store)
+    → (told r.refusal ≡ 0 → ⊥) → (r.state ≡ s) × (store' ≡ store)
 post_refused s store c w r store' h ne = (kept h.refusal ne _ h.state, kept h.refusal ne _ h.rows)
 
 pub close_refused : (s : State) (store words : List ℕ) (asked : Bool) (r : Answer) (words' : List ℕ) → CloseSays s store words asked r words'
-    → (number_of r.refusal ≡ 0 → ⊥) → (r.state ≡ s) × (words' ≡ words)
+    → (told r.refusal ≡ 0 → ⊥) → (r.state ≡ s) × (words' ≡ words)
 close_refused s store words asked r words' h ne = (kept h.refusal ne _ h.state, kept h.refusal ne _ h.buffer)
 
 pub finish_refused : (s : State) (words : List ℕ) (r : Finished) (words' : List ℕ) → FinishSays s words r words'
-    → (number_of r.refusal ≡ 0 → ⊥) → (r.state ≡ s) × (words' ≡ words)
+    → (told r.refusal ≡ 0 → ⊥) → (r.state ≡ s) × (words' ≡ words)
 finish_refused s words r words' h ne = (kept h.refusal ne _ h.state, kept h.refusal ne _ h.buffer)
 
 -- 02: refused, frames count nothing; nor does a latch or a reset change a count
-pub count_refused : (s : State) (samples : List ℕ) (r : Answer) → CountSays s samples r → (number_of r.refusal ≡ 0 → ⊥) → r.state ≡ s
+pub count_refused : (s : State) (samples : List ℕ) (r : Answer) → CountSays s samples r → (told r.refusal ≡ 0 → ⊥) → r.state ≡ s
 count_refused s samples r h ne = kept h.refusal ne _ h.state
 
-pub latch_refused : (s : State) (r : Answer) → LatchSays s r → (number_of r.refusal ≡ 0 → ⊥) → r.state ≡ s
+pub latch_refused : (s : State) (r : Answer) → LatchSays s r → (told r.refusal ≡ 0 → ⊥) → r.state ≡ s
 latch_refused s r h ne = kept h.refusal ne _ h.state
 
-pub reset_refused : (s : State) (r : Answer) → ResetSays s r → (number_of r.refusal ≡ 0 → ⊥) → r.state ≡ s
+pub reset_refused : (s : State) (r : Answer) → ResetSays s r → (told r.refusal ≡ 0 → ⊥) → r.state ≡ s
 reset_refused s r h ne = kept h.refusal ne _ h.state
 
 -- any of the three
-pub aside_refused : (k : Aside) (s : State) (r : Answer) → AsideSays k s r → (number_of r.refusal ≡ 0 → ⊥) → r.state ≡ s
+pub aside_refused : (k : Aside) (s : State) (r : Answer) → AsideSays k s r → (told r.refusal ≡ 0 → ⊥) → r.state ≡ s
 aside_refused (frames samples) s r h ne = count_refused s samples r h ne
 aside_refused latch s r h ne = latch_refused s r h ne
 aside_refused reset s r h ne = reset_refused s r h ne

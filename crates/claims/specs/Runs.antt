@@ -12,8 +12,8 @@ use Rattle.scan.specs.After.{start_of}
 use Rattle.modes.specs.Channel.{common_of, channel_items}
 use Rattle.event.specs.Event.{time_items}
 use Rattle.tail.specs.Tail.{tail_items}
-use Rattle.writer.specs.declared.Answer.{Answer}
-use Rattle.writer.specs.declared.Finished.{Finished}
+use Rattle.writer.specs.Answer.{Answer}
+use Rattle.writer.specs.Answer.{Finished}
 use Rattle.writer.specs.Calls.{SetUpSays, OpenBlockSays, OpenEventSays, FinishSays}
 use Rattle.closing.specs.Closing.{CloseSays}
 use Rattle.block.specs.Block.{block_items, end_items}

@@ -6,9 +6,11 @@ use Rattle.ground.specs.Tests.{first_of, FirstIs}
 use Rattle.ground.specs.TestsLaws.{first_is, is_first}
 use Rattle.settings.specs.declared.Settings.{Settings}
 use Rattle.settings.specs.Ranges.{settings_ok}
-use Rattle.refusals.specs.Refusal.{number_of, if_accepted}
+use Rattle.refusals.specs.Refusal.{told, if_accepted}
 use Rattle.find.specs.Call.{find_table, find_number, FindSays}
-use Rattle.find.specs.declared.FindAnswer.{FindAnswer}
+use Rattle.std.specs.declared.result.Result.{Result}
+use Rattle.refusals.specs.declared.Refusal.{Refusal}
+use Rattle.finder.specs.declared.Pulses.{Pulses}
 use Rattle.scan.specs.declared.Scan.{Scan}
 use Rattle.reader.specs.Step.{Step}
 use Rattle.reader.specs.Judged.{Judged}
@@ -17,8 +19,8 @@ use Rattle.meaning.specs.Meaning.{meaning_at, is_end}
 use Rattle.questions.specs.Questions.{refusals, refusal_of}
 use Rattle.reader.specs.Answers.{step_number, judged_number, number_at, StepSays, JudgedSays}
 use Rattle.state.specs.declared.State.{State}
-use Rattle.writer.specs.declared.Answer.{Answer}
-use Rattle.writer.specs.declared.Finished.{Finished}
+use Rattle.writer.specs.Answer.{Answer}
+use Rattle.writer.specs.Answer.{Finished}
 use Rattle.state.specs.State.{state_ok}
 use Rattle.writer.specs.Calls.{SetUpSays, OpenBlockSays, OpenEventSays, PostSays, FinishSays}
 use Rattle.closing.specs.Closing.{CloseSays}
@@ -105,40 +107,40 @@ pub record Exactly (rows : List (ℕ × Bool)) (said : ℕ) : Type 0 where
 pub exactly : (rows : List (ℕ × Bool)) {said : ℕ} → said ≡ first_of rows → Exactly rows said
 exactly rows e = record { only = λ n h. rw (sym e ∙ h) at (first_is rows); always = λ n h. e ∙ is_first h }
 
-pub set_up_exactly : (s : Settings) (r : Answer) → SetUpSays s r → Exactly ((1, not (settings_ok s)) ∷ []) (number_of r.refusal)
+pub set_up_exactly : (s : Settings) (r : Answer) → SetUpSays s r → Exactly ((1, not (settings_ok s)) ∷ []) (told r.refusal)
 unfolding set_up_number
 set_up_exactly s r h = exactly _ h.refusal
 
 pub open_block_exactly : (s : State) (words : List ℕ) (number events : ℕ) (r : Answer) (words' : List ℕ) → OpenBlockSays s words number events r words'
-    → Exactly (open_block_table s (length words) number events) (number_of r.refusal)
+    → Exactly (open_block_table s (length words) number events) (told r.refusal)
 unfolding open_block_number
 open_block_exactly s words number events r words' h = exactly _ h.refusal
 
-pub open_event_exactly : (s : State) (number time : ℕ) (r : Answer) → OpenEventSays s number time r → Exactly (open_event_table s number time) (number_of r.refusal)
+pub open_event_exactly : (s : State) (number time : ℕ) (r : Answer) → OpenEventSays s number time r → Exactly (open_event_table s number time) (told r.refusal)
 unfolding open_event_number
 open_event_exactly s number time r h = exactly _ h.refusal
 
 pub post_exactly : (s : State) (store : List ℕ) (c : ℕ) (w : List ℕ) (r : Answer) (store' : List ℕ) → PostSays s store c w r store'
-    → Exactly (post_table s (length store) c w) (number_of r.refusal)
+    → Exactly (post_table s (length store) c w) (told r.refusal)
 unfolding post_number
 post_exactly s store c w r store' h = exactly _ h.refusal
 
 pub close_exactly : (s : State) (store words : List ℕ) (asked : Bool) (r : Answer) (words' : List ℕ) → CloseSays s store words asked r words'
-    → Exactly (close_table s asked store (length words)) (number_of r.refusal)
+    → Exactly (close_table s asked store (length words)) (told r.refusal)
 unfolding close_number
 close_exactly s store words asked r words' h = exactly _ h.refusal
 
-pub finish_exactly : (s : State) (words : List ℕ) (r : Finished) (words' : List ℕ) → FinishSays s words r words' → Exactly (finish_table s (length words)) (number_of r.refusal)
+pub finish_exactly : (s : State) (words : List ℕ) (r : Finished) (words' : List ℕ) → FinishSays s words r words' → Exactly (finish_table s (length words)) (told r.refusal)
 unfolding finish_number
 finish_exactly s words r words' h = exactly _ h.refusal
 
-pub aside_exactly : (k : Aside) (s : State) (r : Answer) → AsideSays k s r → Exactly (aside_table s k) (number_of r.refusal)
+pub aside_exactly : (k : Aside) (s : State) (r : Answer) → AsideSays k s r → Exactly (aside_table s k) (told r.refusal)
 unfolding count_number latch_number reset_number
 aside_exactly (frames samples) s r h = exactly _ h.refusal
 aside_exactly latch s r h = exactly _ h.refusal
 aside_exactly reset s r h = exactly _ h.refusal
 
-pub find_exactly : (s : Settings) (c : ℕ) (w : List ℕ) (r : FindAnswer) → FindSays s c w r → Exactly (find_table s c w) (number_of r.refusal)
+pub find_exactly : (s : Settings) (c : ℕ) (w : List ℕ) (r : Result Pulses Refusal) → FindSays s c w r → Exactly (find_table s c w) (told r)
 unfolding find_number
 find_exactly s c w r h = exactly _ h.refusal
 
@@ -170,30 +172,30 @@ end_exactly s r e = exactly _ e
 kept : {s : State} {said n : ℕ} (new old : State) → said ≡ n → said ≡ 0 → s ≡ if_accepted n new old → (n ≡ 0 → state_ok new ≡ true) → state_ok s ≡ true
 kept new old e z is k = ap state_ok (is ∙ done new old (sym e ∙ z)) ∙ k (sym e ∙ z)
 
-pub set_up_in_range : (s : Settings) (r : Answer) → SetUpSays s r → number_of r.refusal ≡ 0 → state_ok r.state ≡ true
+pub set_up_in_range : (s : Settings) (r : Answer) → SetUpSays s r → told r.refusal ≡ 0 → state_ok r.state ≡ true
 set_up_in_range s r h z = kept _ _ h.refusal z h.state (set_up_kept s)
 
 pub open_block_in_range : (s : State) (words : List ℕ) (number events : ℕ) (r : Answer) (words' : List ℕ) → OpenBlockSays s words number events r words'
-    → number_of r.refusal ≡ 0 → state_ok r.state ≡ true
+    → told r.refusal ≡ 0 → state_ok r.state ≡ true
 open_block_in_range s words number events r words' h z = kept _ _ h.refusal z h.state (open_block_kept s (length words) number events)
 
-pub open_event_in_range : (s : State) (number time : ℕ) (r : Answer) → OpenEventSays s number time r → number_of r.refusal ≡ 0 → state_ok r.state ≡ true
+pub open_event_in_range : (s : State) (number time : ℕ) (r : Answer) → OpenEventSays s number time r → told r.refusal ≡ 0 → state_ok r.state ≡ true
 open_event_in_range s number time r h z = kept _ _ h.refusal z h.state (open_event_kept s number time)
 
 pub post_in_range : (s : State) (store : List ℕ) (c : ℕ) (w : List ℕ) (r : Answer) (store' : List ℕ) → PostSays s store c w r store'
-    → number_of r.refusal ≡ 0 → state_ok r.state ≡ true
+    → told r.refusal ≡ 0 → state_ok r.state ≡ true
 post_in_range s store c w r store' h z = kept _ _ h.refusal z h.state (post_kept s (length store) c w)
 
 -- the marks are the sixteen, and the latched counts the eighteen, of the state's arrays
 pub close_in_range : (s : State) (store words : List ℕ) (asked : Bool) (r : Answer) (words' : List ℕ) → CloseSays s store words asked r words' → length s.posted ≤ 16
-    → length s.scalers.latched ≡ 18 → number_of r.refusal ≡ 0 → state_ok r.state ≡ true
+    → length s.scalers.latched ≡ 18 → told r.refusal ≡ 0 → state_ok r.state ≡ true
 close_in_range s store words asked r words' h m l z = kept _ _ h.refusal z h.state (closing_kept s asked store (length words) m l)
 
-pub finish_in_range : (s : State) (words : List ℕ) (r : Finished) (words' : List ℕ) → FinishSays s words r words' → number_of r.refusal ≡ 0
+pub finish_in_range : (s : State) (words : List ℕ) (r : Finished) (words' : List ℕ) → FinishSays s words r words' → told r.refusal ≡ 0
     → state_ok r.state ≡ true
 finish_in_range s words r words' h z = kept _ _ h.refusal z h.state (finish_kept s (length words))
 
-pub aside_in_range : (k : Aside) (s : State) (r : Answer) → AsideSays k s r → number_of r.refusal ≡ 0 → state_ok r.state ≡ true
+pub aside_in_range : (k : Aside) (s : State) (r : Answer) → AsideSays k s r → told r.refusal ≡ 0 → state_ok r.state ≡ true
 aside_in_range (frames samples) s r h z = kept _ _ h.refusal z h.state (count_kept s samples)
 aside_in_range latch s r h z = kept _ _ h.refusal z h.state (latch_kept s)
 aside_in_range reset s r h z = kept _ _ h.refusal z h.state (reset_kept s)

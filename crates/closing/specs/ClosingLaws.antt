@@ -12,7 +12,7 @@ use Rattle.event.specs.Event.{event_items}
 use Rattle.rows.specs.Inner.{Lent}
 use Rattle.rows.specs.RowsLaws.{lent_enough}
 use Rattle.state.specs.declared.State.{State}
-use Rattle.writer.specs.declared.Answer.{Answer}
+use Rattle.writer.specs.Answer.{Answer}
 use Rattle.writer.specs.UniqueLaws.{one_answer}
 use Rattle.closing.specs.Closing.{CloseSays}
 use Rattle.state.specs.StateLaws.{EventSays, event_says, state_settings}

@@ -1,12 +1,12 @@
 -- The calls that count: what each answers and leaves. Document 02, "Scaler words". Assumes nothing.
 use Rattle.std.specs.Prelude.{ℕ, ◌%◌, ◌≡◌, Bool, not, List, [], ◌∷◌, eqb, length}
 use Rattle.ground.specs.Tests.{first_of}
-use Rattle.refusals.specs.Refusal.{number_of, if_accepted}
+use Rattle.refusals.specs.Refusal.{told, if_accepted}
 use Rattle.samples.specs.Sample.{samples_ok}
 use Rattle.scalers.specs.Scalers.{frame_samples, frames_of, count_frames, latched_now, reset_now}
 use Rattle.state.specs.declared.State.{State}
 use Rattle.state.specs.State.{state_ok, with_scalers}
-use Rattle.writer.specs.declared.Answer.{Answer}
+use Rattle.writer.specs.Answer.{Answer}
 
 -- ---- frames
 
@@ -23,7 +23,7 @@ with_frames s samples = with_scalers s (count_frames s.settings.thresholds s.sca
 
 -- "Feed frames of sixteen samples"; refused, none of them counts
 pub record CountSays (s : State) (samples : List ℕ) (r : Answer) : Type 0 where
-  pub refusal : number_of r.refusal ≡ count_number s samples
+  pub refusal : told r.refusal ≡ count_number s samples
   pub state : r.state ≡ if_accepted (count_number s samples) (with_frames s samples) s
 
 -- ---- latch
@@ -35,7 +35,7 @@ unfoldable pub latch_number : State → ℕ
 latch_number s = first_of (latch_table s)
 
 pub record LatchSays (s : State) (r : Answer) : Type 0 where
-  pub refusal : number_of r.refusal ≡ latch_number s
+  pub refusal : told r.refusal ≡ latch_number s
   pub state : r.state ≡ if_accepted (latch_number s) (with_scalers s (latched_now s.scalers)) s
 
 -- ---- reset
@@ -47,7 +47,7 @@ unfoldable pub reset_number : State → ℕ
 reset_number s = first_of (reset_table s)
 
 pub record ResetSays (s : State) (r : Answer) : Type 0 where
-  pub refusal : number_of r.refusal ≡ reset_number s
+  pub refusal : told r.refusal ≡ reset_number s
   pub state : r.state ≡ if_accepted (reset_number s) (with_scalers s (reset_now s.scalers)) s
 
 -- a proof that computes opens this file and what it leans on by one name

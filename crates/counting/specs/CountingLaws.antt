@@ -9,7 +9,7 @@ use Rattle.scalers.specs.Scalers.{group_frames, frame_samples, count_frame, coun
 use Rattle.state.specs.declared.State.{State}
 use Rattle.state.specs.State.{scalers_ok, state_ok, with_scalers}
 use Rattle.state.specs.StateLaws.{state_scalers, scalers_kept}
-use Rattle.writer.specs.declared.Answer.{Answer}
+use Rattle.writer.specs.Answer.{Answer}
 use Rattle.writer.specs.UniqueLaws.{one_answer}
 use Rattle.counting.specs.Counting.{count_table, count_number, with_frames, CountSays, latch_table, latch_number, LatchSays, reset_table, reset_number, ResetSays}
 

@@ -2,89 +2,63 @@
 #![tactic(auto)]
 
 ghost use Rattle.std.specs.Prelude.{◌≡◌};
-ghost use Rattle.refusals.specs.Refusal.{number_of};
+ghost use Rattle.refusals.specs.Refusal.{told};
+ghost use Rattle.writer.specs.Answer.{answer};
 ghost use Rattle.counting.specs.Counting.{count_number, latch_number, CountSays, LatchSays, ResetSays};
 
 use refusals::Refusal;
 use scalers::FRAME;
 use state::State;
 use state::ranges::state_ok;
-use writer::Answer;
 
-fn count_check(s: State, samples: &[u16]) -> Refusal
-    ensures { number_of result ≡ count_number s samples.now }
+fn count_check(s: State, samples: &[u16]) -> Result<(), Refusal>
+    ensures { told result ≡ count_number s samples.now }
 {
     if !state_ok(s) {
-        return Refusal::State;
+        return Err(Refusal::State);
     }
     if !samples::samples_ok(samples) {
-        return Refusal::Sample;
+        return Err(Refusal::Sample);
     }
     if samples.len() % FRAME != 0 {
-        return Refusal::Frames;
+        return Err(Refusal::Frames);
     }
-    Refusal::None
+    Ok(())
 }
 
 // Latch and reset ask for the state's ranges alone.
-fn state_check(s: State) -> Refusal
-    ensures { number_of result ≡ latch_number s }
+fn state_check(s: State) -> Result<(), Refusal>
+    ensures { told result ≡ latch_number s }
 {
     if state_ok(s) {
-        return Refusal::None;
+        return Ok(());
     }
-    Refusal::State
+    Err(Refusal::State)
 }
 
 // Counts frames, each channel by its own threshold. Refused, none of them counts.
-pub fn count(state: State, samples: &[u16]) -> Answer
-    ensures { CountSays state samples.now result }
+pub fn count(state: &mut State, samples: &[u16]) -> Result<(), Refusal>
+    ensures { CountSays state.old samples.now (answer result state.new) }
 {
-    let refusal = count_check(state, samples);
-    if refusals::accepted(refusal) {
-        let settings = state.settings;
-        let thresholds = settings.thresholds;
-        let counted = scalers::count(state.scalers, thresholds, samples);
-        let mut after = state;
-        after.scalers = counted;
-        return Answer {
-            refusal,
-            state: after,
-        };
-    }
-    Answer { refusal, state }
+    count_check(*state, samples)?;
+    state.scalers = scalers::count(state.scalers, state.settings.thresholds, samples);
+    Ok(())
 }
 
 // Copies all eighteen counts at once.
-pub fn latch(state: State) -> Answer
-    ensures { LatchSays state result }
+pub fn latch(state: &mut State) -> Result<(), Refusal>
+    ensures { LatchSays state.old (answer result state.new) }
 {
-    let refusal = state_check(state);
-    if refusals::accepted(refusal) {
-        let latched = scalers::latch(state.scalers);
-        let mut after = state;
-        after.scalers = latched;
-        return Answer {
-            refusal,
-            state: after,
-        };
-    }
-    Answer { refusal, state }
+    state_check(*state)?;
+    state.scalers = scalers::latch(state.scalers);
+    Ok(())
 }
 
 // Zeroes the running counts; the latched ones and the last frame stay.
-pub fn reset(state: State) -> Answer
-    ensures { ResetSays state result }
+pub fn reset(state: &mut State) -> Result<(), Refusal>
+    ensures { ResetSays state.old (answer result state.new) }
 {
-    let refusal = state_check(state);
-    if refusals::accepted(refusal) {
-        let zeroed = scalers::reset(state.scalers);
-        let mut after = state;
-        after.scalers = zeroed;
-        return Answer {
-            refusal,
-            state: after,
-        };
-    }
-    Answer { refusal, state }
+    state_check(*state)?;
+    state.scalers = scalers::reset(state.scalers);
+    Ok(())
 }

@@ -1,52 +1,15 @@
--- Loading and storing a scan, and that a scan comes back from its numbers. Assumes nothing.
-use Rattle.std.specs.Prelude.{ℕ, zero, suc, ◌≤◌, ◌≡◌, true, false, ◌&&◌, List, [], ◌∷◌, eqb, leb, length, get_or, replicate}
+-- A scan comes back from its numbers. Assumes nothing.
+use Rattle.std.specs.Prelude.{ℕ, ◌≡◌, true, false, List, length, replicate}
 use Rattle.std.proofs.Math.Path.{refl}
-use Rattle.std.proofs.Common.{ap, ◌∙◌, arith, eqb-true}
+use Rattle.std.proofs.Common.{◌∙◌, arith, eqb-true}
 use Rattle.ground.specs.SpliceLaws.{splice_all}
 use Rattle.ground.specs.TestsLaws.{and_left}
-use Rattle.copies.specs.Copies.{pasted}
 use Rattle.copies.specs.CopiesLaws.{pasted_fits}
 use Rattle.scan.specs.After.{start_of}
 use Rattle.scan.specs.declared.Stage.{Stage}
 use Rattle.scan.specs.declared.Stage.TheVariants as P
 use Rattle.scan.specs.declared.Scan.{Scan}
-use Rattle.cursors.specs.Cursors.{place_at, slot_at, left_at, stage_at, first_at, second_at, scan_count, last_stage, stage_number, stage_first, stage_second, cursor_of, is_scan, stage_from, scan_from, scan_stored}
-
--- ---- loading
-
-pub get_d_out : (l : List ℕ) (i d : ℕ) → length l ≤ i → get_or l i d ≡ d
-get_d_out [] i d h = refl
-get_d_out (x ∷ l) zero d h = absurd (omega arith)
-get_d_out (x ∷ l) (suc i) d h = get_d_out l i d (omega arith)
-
-pub scan_asked : (n : List ℕ) {stage second : ℕ} → stage ≡ get_or n stage_at 0 → second ≡ get_or n second_at 0
-    → (eqb (length n) scan_count && leb stage last_stage) && leb second 1 ≡ is_scan n
-unfolding is_scan
-scan_asked n e f = rw (e, f)
-
-pub scan_loaded : (n : List ℕ) {second number first place slot left : ℕ} {stage : Stage}
-    → second ≡ get_or n second_at 0
-    → number ≡ get_or n stage_at 0
-    → first ≡ get_or n first_at 0
-    → stage ≡ stage_from number first (eqb second 1)
-    → place ≡ get_or n place_at 0
-    → slot ≡ get_or n slot_at 0
-    → left ≡ get_or n left_at 0
-    → record { place = place; slot = slot; left = left; stage = stage } ≡ scan_from n
-unfolding scan_from
-scan_loaded n s k f g p q l = rw (g, s, k, f, p, q, l)
-
--- ---- storing
-
-pub cursor_made : (s : Scan) {number first second : ℕ} → number ≡ stage_number s.stage → first ≡ stage_first s.stage → second ≡ stage_second s.stage
-    → s.place ∷ s.slot ∷ s.left ∷ number ∷ first ∷ second ∷ [] ≡ cursor_of s
-unfolding cursor_of
-cursor_made s e f g = rw (e, f, g)
-
-pub scan_stored_lem : (n : List ℕ) (s : Scan) {c n' : List ℕ} → c ≡ cursor_of s → n' ≡ pasted n 0 c → n' ≡ scan_stored n s
-scan_stored_lem n s e f = f ∙ ap (pasted n 0) e
-
--- ---- there and back
+use Rattle.cursors.specs.Cursors.{scan_count, cursor_of, is_scan, scan_from, scan_stored}
 
 -- the numbers of a scan are as many as a scan has
 pub scan_count_lem : (n : List ℕ) → is_scan n ≡ true → length n ≡ scan_count

@@ -1,8 +1,8 @@
 // Where the reading of a block stands, as numbers that C lends: asked for, loaded, stored.
 #![tactic(auto)]
 
-ghost use Rattle.std.specs.Prelude.{◌≡◌, get_or};
-ghost use Rattle.cursors.specs.Cursors.{mark_number, stage_number, stage_first, stage_second, cursor_of, is_scan, stage_from, scan_from, scan_stored};
+ghost use Rattle.std.specs.Prelude.{◌≡◌, get_or, [], ◌∷◌};
+ghost use Rattle.cursors.specs.Cursors.{stage_number, stage_first, stage_second, cursor_of, is_scan, stage_from, scan_from, scan_stored};
 
 use scan::{Scan, Stage};
 
@@ -28,13 +28,11 @@ const LAST_STAGE: u32 = 9;
 fn at(numbers: &[u32], place: usize) -> u32
     ensures { result ≡ get_or numbers.now place 0 }
 {
-    if place < numbers.len() {
-        return numbers[place];
-    }
-    0
+    numbers.get(place).copied().unwrap_or(0)
 }
 
 // As many numbers as a scan has, a stage, and a second number of 0 or 1.
+#[tactic(auto, unfolding(crate::specs::Cursors::is_scan))]
 pub fn is_scan(numbers: &[u32]) -> bool
     ensures { result ≡ is_scan numbers.now }
 {
@@ -62,6 +60,7 @@ fn stage_from(number: u32, first: u32, second: bool) -> Stage
     }
 }
 
+#[tactic(auto, unfolding(crate::specs::Cursors::scan_from))]
 pub fn scan_from(numbers: &[u32]) -> Scan
     ensures { result ≡ scan_from numbers.now }
 {
@@ -75,72 +74,29 @@ pub fn scan_from(numbers: &[u32]) -> Scan
     }
 }
 
-fn stage_number(stage: Stage) -> u32
-    ensures { result ≡ stage_number stage }
+// A stage's number, and the two that go with it: 0 where none does.
+fn stage_numbers(stage: Stage) -> [u32; 3]
+    ensures { result ≡ stage_number stage ∷ stage_first stage ∷ stage_second stage ∷ [] }
 {
     match stage {
-        Stage::Start => 0,
-        Stage::Head => 1,
-        Stage::Front => 2,
-        Stage::Opened => 3,
-        Stage::Timed(_) => 4,
-        Stage::Items => 5,
-        Stage::Window(_, _) => 6,
-        Stage::Raw(_, _) => 7,
-        Stage::Tail(_) => 8,
-        Stage::Scalers(_) => 9,
+        Stage::Start => [0, 0, 0],
+        Stage::Head => [1, 0, 0],
+        Stage::Front => [2, 0, 0],
+        Stage::Opened => [3, 0, 0],
+        Stage::Timed(bits) => [4, bits, 0],
+        Stage::Items => [5, 0, 0],
+        Stage::Window(pairs, odd) => [6, pairs, u32::from(odd)],
+        Stage::Raw(pairs, some) => [7, pairs, u32::from(some)],
+        Stage::Tail(fillers) => [8, fillers, 0],
+        Stage::Scalers(words) => [9, words, 0],
     }
 }
 
-// The number that goes with a stage, 0 where none does.
-fn stage_first(stage: Stage) -> u32
-    ensures { result ≡ stage_first stage }
-{
-    match stage {
-        Stage::Start => 0,
-        Stage::Head => 0,
-        Stage::Front => 0,
-        Stage::Opened => 0,
-        Stage::Timed(bits) => bits,
-        Stage::Items => 0,
-        Stage::Window(pairs, _) => pairs,
-        Stage::Raw(pairs, _) => pairs,
-        Stage::Tail(fillers) => fillers,
-        Stage::Scalers(words) => words,
-    }
-}
-
-fn mark_number(mark: bool) -> u32
-    ensures { result ≡ mark_number mark }
-{
-    if mark { 1 } else { 0 }
-}
-
-// The same of its mark.
-fn stage_second(stage: Stage) -> u32
-    ensures { result ≡ stage_second stage }
-{
-    match stage {
-        Stage::Start => 0,
-        Stage::Head => 0,
-        Stage::Front => 0,
-        Stage::Opened => 0,
-        Stage::Timed(_) => 0,
-        Stage::Items => 0,
-        Stage::Window(_, odd) => mark_number(odd),
-        Stage::Raw(_, some) => mark_number(some),
-        Stage::Tail(_) => 0,
-        Stage::Scalers(_) => 0,
-    }
-}
-
+#[tactic(auto, unfolding(crate::specs::Cursors::cursor_of))]
 fn cursor_of(scan: Scan) -> [u32; SCAN]
     ensures { result ≡ cursor_of scan }
 {
-    let stage = scan.stage;
-    let number = stage_number(stage);
-    let first = stage_first(stage);
-    let second = stage_second(stage);
+    let [number, first, second] = stage_numbers(scan.stage);
     [scan.place, scan.slot, scan.left, number, first, second]
 }
 
@@ -149,5 +105,5 @@ pub fn put_scan(numbers: &mut [u32], scan: Scan)
     ensures { numbers.new ≡ scan_stored numbers.old scan }
 {
     let cursor = cursor_of(scan);
-    copies::put32(numbers, 0, &cursor);
+    copies::put(numbers, 0, &cursor);
 }

@@ -1,5 +1,6 @@
 -- A reading from the bytes at a place, one word ahead, and the scalers' words ahead. Assumes nothing.
 use Rattle.std.specs.Prelude.{ℕ, ◌+◌, ◌-◌, ◌≤◌, ◌<◌, ◌≡◌, length, take, drop, get_or}
+use Rattle.std.specs.declared.option.Option.TheVariants.{None}
 use Rattle.std.proofs.Common.{refl, sym, ap, ◌∙◌, arith, drop-drop, take_all}
 use mathlib.Core.List.{List, [], ◌∷◌, map}
 use Rattle.std.proofs.Math.ListN.{length-drop}
@@ -15,7 +16,6 @@ use Rattle.reader.specs.Reader.{judge_at, Reading, on_judged, read_from}
 use Rattle.written.specs.Page.{Page, put}
 use Rattle.written.specs.PageLaws.{put_nil, put_append}
 use Rattle.written.specs.Line.{Number, cell_text, cells_text}
-use Rattle.lines.specs.declared.Second.TheVariants as N
 use Rattle.entries.specs.Entries.{high_in, second_of, scalers_in, scaler_cells}
 
 -- a part that is lent, from i to the end
@@ -43,7 +43,7 @@ pub read_first : (bytes : List ℕ) (s : Scan) {j : Judged} → 4 ≤ length byt
 read_first bytes s h e = from_first bytes s h (e ∙ ap (λ (l : List ℕ). judge_at s (get_or l 0 0)) (sym (words_some bytes h)))
 
 -- a second time word, one word ahead
-pub second_none : (bytes : List ℕ) (s : Scan) → length bytes < 4 → N.Nothing ≡ second_of (read_from s (words_of_bytes bytes)).items
+pub second_none : (bytes : List ℕ) (s : Scan) → length bytes < 4 → second_of (read_from s (words_of_bytes bytes)).items ≡ None
 unfolding read_from
 second_none bytes s h = rw (words_none bytes h)
 
@@ -51,10 +51,10 @@ module _ (bytes : List ℕ) (s : Scan) (h : 4 ≤ length bytes) where
   pub second_took : (x : Item) (u : Scan) → J.Took x u ≡ judge_at s (get_or (words_of_bytes bytes) 0 0) → second_of (read_from s (words_of_bytes bytes)).items ≡ high_in x
   second_took x u e = ap (λ (r : Reading). second_of r.items) (from_first bytes s h e)
 
-  pub second_refused : (n p : ℕ) → J.Refused n p ≡ judge_at s (get_or (words_of_bytes bytes) 0 0) → second_of (read_from s (words_of_bytes bytes)).items ≡ N.Nothing
+  pub second_refused : (n p : ℕ) → J.Refused n p ≡ judge_at s (get_or (words_of_bytes bytes) 0 0) → second_of (read_from s (words_of_bytes bytes)).items ≡ None
   second_refused n p e = ap (λ (r : Reading). second_of r.items) (from_first bytes s h e)
 
-  pub second_ended : J.Ended ≡ judge_at s (get_or (words_of_bytes bytes) 0 0) → second_of (read_from s (words_of_bytes bytes)).items ≡ N.Nothing
+  pub second_ended : J.Ended ≡ judge_at s (get_or (words_of_bytes bytes) 0 0) → second_of (read_from s (words_of_bytes bytes)).items ≡ None
   second_ended e = ap (λ (r : Reading). second_of r.items) (from_first bytes s h e)
 
 pub ruleset second_ahead = (second_none, second_took, second_refused, second_ended)

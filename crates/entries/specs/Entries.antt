@@ -1,33 +1,33 @@
 -- What the lister prints of one record. Assumes nothing.
 use Rattle.std.specs.Prelude.{ℕ, List, [], ◌∷◌, map}
+use Rattle.std.specs.declared.option.Option.{Option}
+use Rattle.std.specs.declared.option.Option.TheVariants.{Some, None}
 use Rattle.items.specs.declared.Item.{Item}
 use Rattle.items.specs.declared.Item.TheVariants as I
 use Rattle.written.specs.Line.{Number, cells_text, Line}
-use Rattle.lines.specs.declared.Second.{Second}
-use Rattle.lines.specs.declared.Second.TheVariants as S
 use Rattle.lines.specs.Lines.{block_line, setup_line, event_line, clock_line, window_line, pulse_line, pair_line, integral_line, time_line, ped_line, end_line, empty_line, scalers_line}
 
 -- the second time word, where one follows
-abbrev pub high_in : Item → Second
-high_in (I.Block r) = S.Nothing
-high_in (I.Parameters r) = S.Nothing
-high_in (I.Trailer r) = S.Nothing
-high_in (I.Event r) = S.Nothing
-high_in (I.Clock r) = S.Nothing
-high_in (I.ClockHigh r) = S.High r.high
-high_in (I.Window r) = S.Nothing
-high_in (I.Raw r) = S.Nothing
-high_in (I.Pair r) = S.Nothing
-high_in (I.Integral r) = S.Nothing
-high_in (I.Time r) = S.Nothing
-high_in (I.Pedestal r) = S.Nothing
-high_in (I.Empty r) = S.Nothing
-high_in (I.Filler r) = S.Nothing
-high_in (I.Scalers r) = S.Nothing
-high_in (I.Scaler r) = S.Nothing
+abbrev pub high_in : Item → Option ℕ
+high_in (I.Block r) = None
+high_in (I.Parameters r) = None
+high_in (I.Trailer r) = None
+high_in (I.Event r) = None
+high_in (I.Clock r) = None
+high_in (I.ClockHigh r) = Some r.high
+high_in (I.Window r) = None
+high_in (I.Raw r) = None
+high_in (I.Pair r) = None
+high_in (I.Integral r) = None
+high_in (I.Time r) = None
+high_in (I.Pedestal r) = None
+high_in (I.Empty r) = None
+high_in (I.Filler r) = None
+high_in (I.Scalers r) = None
+high_in (I.Scaler r) = None
 
-abbrev pub second_of : List Item → Second
-second_of [] = S.Nothing
+abbrev pub second_of : List Item → Option ℕ
+second_of [] = None
 second_of (x ∷ xs) = high_in x
 
 -- the scaler words that come first

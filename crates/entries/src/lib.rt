@@ -10,7 +10,6 @@ ghost use Rattle.lines.specs.Lines.{scalers_line};
 ghost use Rattle.entries.specs.Entries.{high_in, second_of, scalers_in, scaler_cells, record_lines, filler_in};
 
 use items::Item;
-use lines::Second;
 use scan::Scan;
 
 // The first word of the bytes, 0 for none.
@@ -23,27 +22,26 @@ pub fn first_word(bytes: &[u8]) -> u32
     fields::of_bytes(*a, *b, *c, *d)
 }
 
-fn high_in(item: Item) -> Second
+fn high_in(item: Item) -> Option<u32>
     ensures { result ≡ high_in item }
 {
-    if let Item::ClockHigh(r) = item {
-        Second::High(r.high)
-    } else {
-        Second::Nothing
+    match item {
+        Item::ClockHigh(r) => Some(r.high),
+        _ => None,
     }
 }
 
 // Looks one word ahead: a second time word, if one is accepted there.
 #[tactic(auto, using(crate::specs::AheadLaws::second_ahead))]
-fn second_in(bytes: &[u8], scan: Scan) -> Second
+fn second_in(bytes: &[u8], scan: Scan) -> Option<u32>
     ensures { result ≡ second_of (read_from scan (words_of_bytes bytes.now)).items }
 {
     if bytes.len() < 4 {
-        return Second::Nothing;
+        return None;
     }
     match reader::judge_at(scan, first_word(bytes)) {
         Ok(Some((item, _))) => high_in(item),
-        Ok(None) | Err(_) => Second::Nothing,
+        Ok(None) | Err(_) => None,
     }
 }
 

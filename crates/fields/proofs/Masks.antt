@@ -1,6 +1,6 @@
 -- Shifts and masks at 32 bits as arithmetic, over any place and width. Assumes nothing.
 use Prim.Native.Nat.{ℕ, ◌+◌, ◌-◌, ◌*◌, ◌/◌, ◌%◌, ◌^◌, ◌≤◌, ◌<◌}
-use mathlib.Core.Path.{◌≡◌, sym, ap, ap₂, ◌∙◌, subst}
+use mathlib.Core.Path.{◌≡◌, sym, ap, ap₂, ◌∙◌}
 use native.Mathlib.Nat.{add-zero, mul_assoc, one-mul, mod-lt, mod-eq_of_lt, zero-mod, div-eq_of_lt, div-le_self, lt_of_lt_of_le, lt_of_le_of_lt, sub-add_cancel}
 use native.Mathlib.Omega.{arith}
 use lib.Bits.{bit_and, bit_or, and_mask, or_shifted_r}
@@ -8,11 +8,8 @@ use lib.Pow.{pow-add, pow_pos, pow-lt, pow_mono, mod-pow-add, high, low}
 use Rattle.fields.specs.Word.{field_at, put_at}
 
 -- `1 << k` is the power
-pub one_shl : (k : ℕ) → k < 32 → 1 * 2 ^ k % 2 ^ 32 ≡ 2 ^ k
+one_shl : (k : ℕ) → k < 32 → 1 * 2 ^ k % 2 ^ 32 ≡ 2 ^ k
 one_shl k h = ap (λ (x : ℕ). x % 2 ^ 32) (one-mul (2 ^ k)) ∙ mod-eq_of_lt (pow-lt h)
-
-pub one_shl_pos : (k : ℕ) → k < 32 → 1 ≤ 1 * 2 ^ k % 2 ^ 32
-one_shl_pos k h = subst (λ (x : ℕ). 1 ≤ x) (sym (one_shl k h)) (pow_pos k)
 
 -- `n & ((1 << k) - 1)`
 pub masked : (n k : ℕ) → k < 32 → bit_and n (1 * 2 ^ k % 2 ^ 32 - 1) ≡ n % 2 ^ k

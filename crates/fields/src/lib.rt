@@ -6,6 +6,8 @@ ghost use Rattle.fields.specs.Word.{field_at, put_at};
 ghost use Rattle.fields.specs.Tag.{is_defining, is_continuation};
 ghost use Rattle.fields.specs.Bytes.{word_of_bytes, bytes_of};
 
+pub mod record;
+
 // The field of `width` bits from bit `place` on. Nothing is out of range: past bit 31 there are zeros.
 pub fn take(word: u32, place: u32, width: u32) -> u32
     ensures { result ≡ field_at word place width }
@@ -45,48 +47,31 @@ pub fn continuation(fields: u32) -> u32
     put(fields, 31, 0)
 }
 
+#[tactic(auto, unfolding(crate::specs::Tag::is_defining))]
 pub fn is_defining(word: u32, tag: u32) -> bool
     ensures { result ≡ is_defining tag word }
 {
     (take(word, 31, 1) == 1) & (take(word, 27, 4) == tag)
 }
 
+#[tactic(auto, unfolding(crate::specs::Tag::is_continuation))]
 pub fn is_continuation(word: u32) -> bool
     ensures { result ≡ is_continuation word }
 {
     take(word, 31, 1) == 0
 }
 
-fn wide(b: u8) -> u32
-    ensures { result ≡ b }
-{
-    b as u32
-}
-
-// The word of four bytes, the highest first.
+// The word of four bytes, the highest first. Not by `u32::from_be_bytes`, which was slower: its sums do not become one load.
 pub fn of_bytes(a: u8, b: u8, c: u8, d: u8) -> u32
     ensures { result ≡ word_of_bytes a b c d }
 {
-    let low = put(0, 0, wide(d));
-    let half = put(low, 8, wide(c));
-    let most = put(half, 16, wide(b));
-    put(most, 24, wide(a))
-}
-
-fn byte_at(word: u32, place: u32) -> u8
-    ensures { result ≡ field_at word place 8 }
-{
-    take(word, place, 8) as u8
+    (u32::from(a) << 24) | ((u32::from(b) << 16) | ((u32::from(c) << 8) | u32::from(d)))
 }
 
 // The four bytes of a word, the highest first.
+#[tactic(auto, unfolding(crate::specs::Word::field_at))]
 pub fn to_bytes(word: u32) -> [u8; 4]
     ensures { result ≡ bytes_of word }
 {
-    [
-        byte_at(word, 24),
-        byte_at(word, 16),
-        byte_at(word, 8),
-        byte_at(word, 0),
-    ]
+    word.to_be_bytes()
 }

@@ -5,15 +5,17 @@ use Rattle.std.proofs.Math.Path.{refl}
 use Rattle.std.proofs.Common.{ap, ap₂, ◌∙◌, arith, eqb-true}
 use Rattle.ground.specs.Tests.{first_of}
 use Rattle.settings.specs.declared.Settings.{Settings}
-use Rattle.refusals.specs.Refusal.{number_of}
+use Rattle.std.specs.declared.result.Result.{Result}
+use Rattle.refusals.specs.declared.Refusal.{Refusal}
+use Rattle.refusals.specs.Refusal.{told}
 use Rattle.search.specs.Search.{tc_from, early}
 use Rattle.timing.specs.declared.Rule.TheVariants.{Early, Late, Flat}
 use Rattle.timing.specs.Time.{vmin, first_fall, tc_only, edge_time, after_fall, time_at, rule_number}
 use Rattle.finder.specs.declared.Pulse.{Pulse}
-use Rattle.find.specs.declared.FindAnswer.{FindAnswer}
+use Rattle.finder.specs.declared.Pulses.{Pulses}
 use Rattle.finder.specs.Find.{pulse_at, pulses_from, packed}
 use Rattle.finder.specs.RangeLaws.{pulses_count, packed_back}
-use Rattle.find.specs.Call.{find_number, channel_pulses, found_pulses, rule_table, rules_of, found_rules, FindSays}
+use Rattle.find.specs.Call.{find_number, channel_pulses, found_pulses, rule_table, rules_of, found_rules, found_in, FindSays}
 use Rattle.find.specs.CallLaws.{accepted, found_none, found_all}
 
 rule_first : (w : List ℕ) (t tc : ℕ) → rule_number (time_at w t tc).rule ≡ first_of (rule_table w t tc)
@@ -55,5 +57,5 @@ rules_found s c w = go (eqb (find_number s c w) 0) refl
     go false e = rw (found_none s c w e)
 
 -- an answer by its refusal and its pulses
-pub find_says : (s : Settings) (c : ℕ) (w : List ℕ) {r : FindAnswer} → number_of r.refusal ≡ find_number s c w → r.found ≡ packed (found_pulses s c w) → FindSays s c w r
+pub find_says : (s : Settings) (c : ℕ) (w : List ℕ) {r : Result Pulses Refusal} → told r ≡ find_number s c w → found_in r ≡ packed (found_pulses s c w) → FindSays s c w r
 find_says s c w e f = record { refusal = e; found = f; rules = ap rules_of f ∙ rules_found s c w }

@@ -1,21 +1,16 @@
 // The pulse finder: document 01, "Finding pulses".
 #![tactic(auto)]
 
-ghost use Rattle.std.specs.Prelude.{◌≡◌, cond, ◌&&◌, ◌≤◌, [], length};
+ghost use Rattle.std.specs.Prelude.{◌≡◌, cond, ◌&&◌, ◌+◌, ◌≤◌, [], length};
 ghost use Rattle.limits.specs.Limits.{most_samples};
 ghost use Rattle.settings.specs.Ranges.{most_nsa, most_limit};
-ghost use Rattle.samples.specs.Sample.{most_amp};
-ghost use Rattle.search.specs.Search.{amp_at};
 ghost use Rattle.search.specs.Asked.{IsOver};
-ghost use Rattle.timing.specs.declared.Rule.TheVariants.{Early};
 ghost use Rattle.timing.specs.Integral.{integral};
-ghost use Rattle.timing.specs.Time.{tc_only};
-ghost use Rattle.timing.specs.ByBase.{time_from};
-ghost use Rattle.finder.specs.Find.{set_first, set_last, pulse_at, pulses_from, no_pulse, packed, searchable, find_all};
-ghost use Rattle.finder.specs.Wanted.{coarse_pulse, pulse_from, is_tc};
+ghost use Rattle.finder.specs.Find.{pulse_at, pulses_from, no_pulse, packed, searchable, find_all};
+ghost use Rattle.finder.specs.Wanted.{pulse_of, pulse_from, is_tc};
 
 use settings::{LIMIT_MAX, NSA_MAX};
-use timing::{Base, Rule, Time};
+use timing::{Rule, Time};
 
 // A pulse: its TC, the first and the last sample of its data set, the sum over the set before any cap, its time.
 #[derive(Clone, Copy)]
@@ -34,76 +29,30 @@ pub struct Pulses {
     pub pulses: [Pulse; 3],
 }
 
-// The amplitude of sample k.
-fn amp_at(window: &[u16], k: usize) -> u32
-    requires { (1 ≤ k) × (k ≤ length window.now) }
-    ensures { (result ≡ amp_at window.now k) × (result ≤ most_amp) }
-{
-    samples::amplitude(window[k - 1])
-}
-
-// The first sample of the data set.
-fn set_first(tc: usize, nsb: usize) -> usize
-    ensures { result ≡ set_first tc nsb }
-{
-    if nsb < tc { tc - nsb } else { 1 }
-}
-
-// The last sample of the data set.
-fn set_last(tc: usize, nsa: usize, nw: usize) -> usize
-    requires { (1 ≤ tc) × (tc ≤ most_samples) × (nsa ≤ most_nsa) }
-    ensures { result ≡ set_last tc nsa nw }
-{
-    let end = tc + nsa - 1;
-    if end < nw { end } else { nw }
-}
-
 // The sum of the amplitudes from `first` to `last`.
 fn integral_of(window: &[u16], first: usize, last: usize) -> u32
-    requires { (1 ≤ first) × (last ≤ length window.now) × (length window.now ≤ most_samples) }
+    requires { (1 ≤ first) × (first ≤ last + 1) × (last ≤ length window.now) × (length window.now ≤ most_samples) }
     ensures { result ≡ integral window.now first last }
 {
-    let mut sum = 0;
-    let mut k = first - 1;
-    while k < last {
-        k += 1;
-        sum += amp_at(window, k);
-    }
-    sum
+    window[first - 1..last]
+        .iter()
+        .map(|sample| samples::amplitude(*sample))
+        .sum()
 }
 
-fn sum_if(on: bool, window: &[u16], first: usize, last: usize) -> u32
-    requires { (1 ≤ first) × (last ≤ length window.now) × (length window.now ≤ most_samples) }
-    ensures { result ≡ cond on (integral window.now first last) 0 }
+// The pulse at tc, its sum where it is asked. Its time is found by the callers: found in here it would make this too large to be
+// compiled in the place of both.
+fn pulse_of(window: &[u16], nsb: usize, nsa: usize, tc: usize, sums: bool, time: Time) -> Pulse
+    requires { (1 ≤ tc) × (tc ≤ length window.now) × (length window.now ≤ most_samples) × (nsa ≤ most_nsa) }
+    ensures { result ≡ pulse_of sums window.now nsb nsa tc time }
 {
-    if on {
+    let first = tc.saturating_sub(nsb).max(1);
+    let last = (tc + nsa - 1).min(window.len());
+    let sum = if sums {
         integral_of(window, first, last)
     } else {
         0
-    }
-}
-
-fn time_if(on: bool, window: &[u16], base: Base, tc: usize) -> Time
-    requires { (1 ≤ tc) × (tc ≤ length window.now) }
-    ensures { result ≡ cond on (time_from window.now base tc) (tc_only tc 0 Early) }
-{
-    if on {
-        timing::time_from(window, base, tc)
-    } else {
-        timing::tc_only(tc, 0, Rule::Early)
-    }
-}
-
-// The pulse at tc, its sum where it is asked, its time only TC. A high-resolution time is put in by the callers: found in here it
-// would make this too large to be compiled in the place of both.
-fn coarse_pulse(window: &[u16], nsb: usize, nsa: usize, tc: usize, sums: bool) -> Pulse
-    requires { (1 ≤ tc) × (tc ≤ length window.now) × (length window.now ≤ most_samples) × (nsa ≤ most_nsa) }
-    ensures { result ≡ coarse_pulse sums window.now nsb nsa tc }
-{
-    let first = set_first(tc, nsb);
-    let last = set_last(tc, nsa, window.len());
-    let sum = sum_if(sums, window, first, last);
-    let time = timing::tc_only(tc, 0, Rule::Early);
+    };
     Pulse {
         tc,
         first,
@@ -119,10 +68,9 @@ fn pulse_at(window: &[u16], threshold: u32, nsb: usize, nsa: usize, tc: usize) -
     requires window_len_bound { (length window.now ≤ most_samples) × (nsa ≤ most_nsa) }
     ensures { result ≡ pulse_at window.now threshold nsb nsa tc }
 {
-    let mut pulse = coarse_pulse(window, nsb, nsa, tc, true);
     let base = timing::base_of(window, threshold);
-    pulse.time = timing::time_from(window, base, tc);
-    pulse
+    let time = timing::time_from(window, base, tc);
+    pulse_of(window, nsb, nsa, tc, true, time)
 }
 
 // What stands where there is no pulse.
@@ -156,18 +104,19 @@ fn all_pulses(window: &[u16], threshold: u32, nsb: usize, nsa: usize, limit: usi
 {
     let none = no_pulse();
     let mut pulses = [none; 3];
-    let mut count = 0;
     let mut s = 0;
-    while count < limit {
+    for count in 0..limit {
         let tc = search::tc_from(window, threshold, s);
         if tc == 0 {
             return Pulses { count, pulses };
         }
         pulses[count] = pulse_at(window, threshold, nsb, nsa, tc);
-        count += 1;
         s = tc + nsa;
     }
-    Pulses { count, pulses }
+    Pulses {
+        count: limit,
+        pulses,
+    }
 }
 
 // The numbers can be those of settings in range.
@@ -192,16 +141,11 @@ pub fn pulses_of(window: &[u16], threshold: u32, nsb: usize, nsa: usize, limit: 
 fn is_tc(window: &[u16], threshold: u32, tc: usize) -> bool
     ensures { result ≡ is_tc window.now threshold tc }
 {
-    if tc < 1 {
-        return false;
-    }
-    if window.len() < tc {
-        return false;
-    }
-    samples::over(threshold, window[tc - 1])
+    1 <= tc && tc <= window.len() && samples::over(threshold, window[tc - 1])
 }
 
-// One pulse alone, for a caller that found its TC and the base of its window, with no more of it than is asked: its sum, its high-resolution time.
+// One pulse alone, for a caller that found its TC and the base of its window, with no more of it than is asked: its sum, and its
+// high-resolution time where a base is given.
 pub fn pulse_with(
     window: &[u16],
     threshold: u32,
@@ -209,15 +153,13 @@ pub fn pulse_with(
     nsa: usize,
     tc: usize,
     sums: bool,
-    times: bool,
-    base: Base,
+    base: Option<u32>,
 ) -> Pulse
-    ensures { result ≡ cond (searchable (length window.now) nsa 0 && is_tc window.now threshold tc) (pulse_from sums times window.now base nsb nsa tc) no_pulse }
+    ensures { result ≡ cond (searchable (length window.now) nsa 0 && is_tc window.now threshold tc) (pulse_from sums window.now base nsb nsa tc) no_pulse }
 {
     if !(can_search(window.len(), nsa, 0) & is_tc(window, threshold, tc)) {
         return no_pulse();
     }
-    let mut pulse = coarse_pulse(window, nsb, nsa, tc, sums);
-    pulse.time = time_if(times, window, base, tc);
-    pulse
+    let time = timing::time_from(window, base, tc);
+    pulse_of(window, nsb, nsa, tc, sums, time)
 }

@@ -1,9 +1,10 @@
 // Type 0, the block header.
 // "0 block header: 26-22 slot, 21-18 module 1, 17-8 block number, 7-0 events 1-255"
 ghost use Rattle.std.specs.Prelude.{◌≡◌};
-ghost use Rattle.fields.specs.Word.{fit, pack};
-ghost use Rattle.fields.specs.Tag.{is_defining};
 ghost use Rattle.framing.specs.Words.{block_header, block_header_of, block_header_fixed, block_header_within};
+ghost use Rattle.framing.specs.WordsLaws.{block_header_there};
+
+use fields::record::{Defining, Record};
 
 #[derive(Clone, Copy)]
 pub struct BlockHeader {
@@ -13,8 +14,6 @@ pub struct BlockHeader {
 }
 
 impl BlockHeader {
-    pub const TAG: u32 = 0;
-
     pub const MODULE: u32 = 1;
 
     pub const SLOT_MAX: u32 = 31;
@@ -30,17 +29,28 @@ impl BlockHeader {
         (1 <= self.events) & (self.events <= Self::EVENTS_MAX)
     }
 
-    // Whether each field is at most its largest value; then the word keeps them all.
-    pub fn fits(self) -> bool
-        ensures { result ≡ fit (block_header self) }
+    // Whether the module is 1.
+    pub fn fixed(word: u32) -> bool
+        ensures { result ≡ block_header_fixed word }
     {
+        fields::take(word, 18, 4) == Self::MODULE
+    }
+}
+
+impl Record for BlockHeader {
+    ghost row = { block_header };
+
+    ghost held = { block_header_of };
+
+    ghost there = { block_header_there };
+
+    fn fits(self) -> bool {
         (self.slot <= Self::SLOT_MAX)
-            & ((self.number <= Self::NUMBER_MAX) & (self.events <= Self::EVENTS_MAX))
+            & (self.number <= Self::NUMBER_MAX)
+            & (self.events <= Self::EVENTS_MAX)
     }
 
-    pub fn build(self) -> u32
-        ensures { result ≡ pack (block_header self) }
-    {
+    fn build(self) -> u32 {
         let events = fields::put(0, 0, self.events);
         let number = fields::put(events, 8, self.number);
         let module = fields::put(number, 18, Self::MODULE);
@@ -48,27 +58,17 @@ impl BlockHeader {
         fields::defining(slot, Self::TAG)
     }
 
-    pub fn take_apart(word: u32) -> BlockHeader
-        ensures { result ≡ block_header_of word }
-    {
-        BlockHeader {
+    fn take_apart(word: u32) -> Self {
+        Self {
             slot: fields::take(word, 22, 5),
             number: fields::take(word, 8, 10),
             events: fields::take(word, 0, 8),
         }
     }
+}
 
-    // Whether the word is of this type.
-    pub fn is(word: u32) -> bool
-        ensures { result ≡ is_defining 0 word }
-    {
-        fields::is_defining(word, Self::TAG)
-    }
+impl Defining for BlockHeader {
+    ghost TAG = { 0 };
 
-    // Whether the module is 1.
-    pub fn fixed(word: u32) -> bool
-        ensures { result ≡ block_header_fixed word }
-    {
-        fields::take(word, 18, 4) == Self::MODULE
-    }
+    const TAG: u32 = 0;
 }

@@ -1,9 +1,9 @@
 // Type 14, which stands where a module has no block.
 // "14 module empty: 26-22 slot, rest undefined, written 0"
-ghost use Rattle.std.specs.Prelude.{◌≡◌};
-ghost use Rattle.fields.specs.Word.{fit, pack};
-ghost use Rattle.fields.specs.Tag.{is_defining};
 ghost use Rattle.framing.specs.Words.{empty, empty_of};
+ghost use Rattle.framing.specs.WordsLaws.{empty_there};
+
+use fields::record::{Defining, Record};
 
 #[derive(Clone, Copy)]
 pub struct ModuleEmpty {
@@ -11,37 +11,35 @@ pub struct ModuleEmpty {
 }
 
 impl ModuleEmpty {
-    pub const TAG: u32 = 14;
-
     pub const SLOT_MAX: u32 = 31;
+}
 
-    // Whether each field is at most its largest value; then the word keeps them all.
-    pub fn fits(self) -> bool
-        ensures { result ≡ fit (empty self) }
-    {
+impl Record for ModuleEmpty {
+    ghost row = { empty };
+
+    ghost held = { empty_of };
+
+    ghost there = { empty_there };
+
+    fn fits(self) -> bool {
         self.slot <= Self::SLOT_MAX
     }
 
-    pub fn build(self) -> u32
-        ensures { result ≡ pack (empty self) }
-    {
+    fn build(self) -> u32 {
         let undefined = fields::put(0, 0, 0);
         let slot = fields::put(undefined, 22, self.slot);
         fields::defining(slot, Self::TAG)
     }
 
-    pub fn take_apart(word: u32) -> ModuleEmpty
-        ensures { result ≡ empty_of word }
-    {
-        ModuleEmpty {
+    fn take_apart(word: u32) -> Self {
+        Self {
             slot: fields::take(word, 22, 5),
         }
     }
+}
 
-    // Whether the word is of this type.
-    pub fn is(word: u32) -> bool
-        ensures { result ≡ is_defining 14 word }
-    {
-        fields::is_defining(word, Self::TAG)
-    }
+impl Defining for ModuleEmpty {
+    ghost TAG = { 14 };
+
+    const TAG: u32 = 14;
 }

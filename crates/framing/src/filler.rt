@@ -1,9 +1,9 @@
 // Type 15, which fills a block up to its multiple.
 // "15 filler: 26-22 slot, rest undefined, written 0"
-ghost use Rattle.std.specs.Prelude.{◌≡◌};
-ghost use Rattle.fields.specs.Word.{fit, pack};
-ghost use Rattle.fields.specs.Tag.{is_defining};
 ghost use Rattle.framing.specs.Words.{filler, filler_of};
+ghost use Rattle.framing.specs.WordsLaws.{filler_there};
+
+use fields::record::{Defining, Record};
 
 #[derive(Clone, Copy)]
 pub struct Filler {
@@ -11,37 +11,35 @@ pub struct Filler {
 }
 
 impl Filler {
-    pub const TAG: u32 = 15;
-
     pub const SLOT_MAX: u32 = 31;
+}
 
-    // Whether each field is at most its largest value; then the word keeps them all.
-    pub fn fits(self) -> bool
-        ensures { result ≡ fit (filler self) }
-    {
+impl Record for Filler {
+    ghost row = { filler };
+
+    ghost held = { filler_of };
+
+    ghost there = { filler_there };
+
+    fn fits(self) -> bool {
         self.slot <= Self::SLOT_MAX
     }
 
-    pub fn build(self) -> u32
-        ensures { result ≡ pack (filler self) }
-    {
+    fn build(self) -> u32 {
         let undefined = fields::put(0, 0, 0);
         let slot = fields::put(undefined, 22, self.slot);
         fields::defining(slot, Self::TAG)
     }
 
-    pub fn take_apart(word: u32) -> Filler
-        ensures { result ≡ filler_of word }
-    {
-        Filler {
+    fn take_apart(word: u32) -> Self {
+        Self {
             slot: fields::take(word, 22, 5),
         }
     }
+}
 
-    // Whether the word is of this type.
-    pub fn is(word: u32) -> bool
-        ensures { result ≡ is_defining 15 word }
-    {
-        fields::is_defining(word, Self::TAG)
-    }
+impl Defining for Filler {
+    ghost TAG = { 15 };
+
+    const TAG: u32 = 15;
 }

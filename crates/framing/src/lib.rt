@@ -1,7 +1,7 @@
 // The words around the channels: block header, parameters, trailer, event header, trigger time, an event's scalers, module
 // empty and filler.
 // One module a record type: its tag, its largest fields, and how it is built, taken apart and known.
-#![tactic(auto)]
+#![tactic(auto, unfolding(crate::specs::Words::all_open))]
 
 pub mod block_header;
 pub mod empty;

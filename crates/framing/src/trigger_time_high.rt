@@ -1,9 +1,10 @@
 // The second word of the trigger time, a continuation of type 3.
 // "3, second (continuation): 30-24 zero, 23-0 time bits 47-24"
 ghost use Rattle.std.specs.Prelude.{◌≡◌};
-ghost use Rattle.fields.specs.Word.{fit, pack};
-ghost use Rattle.fields.specs.Tag.{is_continuation};
 ghost use Rattle.framing.specs.Words.{trigger_time_high, trigger_time_high_of, trigger_time_high_fixed};
+ghost use Rattle.framing.specs.WordsLaws.{trigger_time_high_there};
+
+use fields::record::{Continuation, Record};
 
 #[derive(Clone, Copy)]
 pub struct TriggerTimeHigh {
@@ -16,36 +17,6 @@ impl TriggerTimeHigh {
     // The greatest time: 48 bits, these and the 24 of the word before.
     pub const TIME_MAX: u64 = 281474976710655;
 
-    // Whether each field is at most its largest value; then the word keeps them all.
-    pub fn fits(self) -> bool
-        ensures { result ≡ fit (trigger_time_high self) }
-    {
-        self.high <= Self::HIGH_MAX
-    }
-
-    pub fn build(self) -> u32
-        ensures { result ≡ pack (trigger_time_high self) }
-    {
-        let high = fields::put(0, 0, self.high);
-        let zero30 = fields::put(high, 24, 0);
-        fields::continuation(zero30)
-    }
-
-    pub fn take_apart(word: u32) -> TriggerTimeHigh
-        ensures { result ≡ trigger_time_high_of word }
-    {
-        TriggerTimeHigh {
-            high: fields::take(word, 0, 24),
-        }
-    }
-
-    // Whether the word is of this type.
-    pub fn is(word: u32) -> bool
-        ensures { result ≡ is_continuation word }
-    {
-        fields::is_continuation(word)
-    }
-
     // Whether the bits that are shown zero are zero.
     pub fn fixed(word: u32) -> bool
         ensures { result ≡ trigger_time_high_fixed word }
@@ -53,3 +24,29 @@ impl TriggerTimeHigh {
         fields::take(word, 24, 7) == 0
     }
 }
+
+impl Record for TriggerTimeHigh {
+    ghost row = { trigger_time_high };
+
+    ghost held = { trigger_time_high_of };
+
+    ghost there = { trigger_time_high_there };
+
+    fn fits(self) -> bool {
+        self.high <= Self::HIGH_MAX
+    }
+
+    fn build(self) -> u32 {
+        let high = fields::put(0, 0, self.high);
+        let zero30 = fields::put(high, 24, 0);
+        fields::continuation(zero30)
+    }
+
+    fn take_apart(word: u32) -> Self {
+        Self {
+            high: fields::take(word, 0, 24),
+        }
+    }
+}
+
+impl Continuation for TriggerTimeHigh {}

@@ -8,6 +8,7 @@ ghost use Rattle.written.specs.Line.{line_text};
 ghost use Rattle.raw.specs.Plain.{plain};
 ghost use Rattle.glance.specs.Quick.{behind_at, measure_of, quick_by, quick_of, quick_line, known_of};
 
+use fields::record::{Defining, Record};
 use measures::integral::PulseIntegral;
 use measures::pedestal::PulsePedestal;
 use measures::time::PulseTime;

@@ -12,7 +12,7 @@ use Rattle.ground.specs.Tests.{first_of}
 use Rattle.copies.specs.Copies.{pasted}
 use Rattle.copies.specs.CopiesLaws.{pasted_fits}
 use Rattle.settings.specs.declared.Settings.{Settings}
-use Rattle.refusals.specs.Refusal.{number_of, bad_array, if_accepted, or_else}
+use Rattle.refusals.specs.Refusal.{number_of, told, bad_array, if_accepted, or_else}
 use Rattle.refusals.specs.RefusalLaws.{none_later}
 use Rattle.refusals.specs.declared.Refusal.TheVariants as R
 use Rattle.items.specs.Items.{words_of}
@@ -20,8 +20,8 @@ use Rattle.scalers.specs.Scalers.{nothing_counted}
 use Rattle.state.specs.declared.State.{State}
 use Rattle.state.specs.State.{idle, blank, with_block, with_event, with_closed}
 use Rattle.state.specs.StateLaws.{blank_out}
-use Rattle.writer.specs.declared.Answer.{Answer}
-use Rattle.writer.specs.declared.Finished.{Finished}
+use Rattle.writer.specs.Answer.{Answer}
+use Rattle.writer.specs.Answer.{Finished}
 use Rattle.writer.specs.Calls.{SetUpSays, OpenBlockSays, OpenEventSays, row_start, PostSays, FinishSays}
 use Rattle.closing.specs.Closing.{CloseSays}
 use Rattle.refusing.specs.Tables.{set_up_number, open_block_table, open_block_number, open_event_table, open_event_number, post_table, post_number, closing_items, close_table, close_number, finish_table, finish_number}
@@ -39,8 +39,8 @@ use Rattle.host.specs.Face.{block_opened, posted, event_closed, finish_on, in_hi
 use Rattle.host.specs.Inner.{Kept, event_placed, MarkFits, mark_placed}
 
 -- the numbers of an answer, told by the number that C gets
-told : {n : List ℕ} {number : ℕ} {s : State} {r : ℕ} {n' : List ℕ} → Kept n number s r n' → n' ≡ if_accepted r (head_stored n s) n
-told {n = n} {s = s} k = k.left ∙ ap (λ (j : ℕ). if_accepted j (head_stored n s) n) (sym k.answer)
+left : {n : List ℕ} {number : ℕ} {s : State} {r : ℕ} {n' : List ℕ} → Kept n number s r n' → n' ≡ if_accepted r (head_stored n s) n
+left {n = n} {s = s} k = k.left ∙ ap (λ (j : ℕ). if_accepted j (head_stored n s) n) (sym k.answer)
 
 pub kept_done : (n : List ℕ) (number : ℕ) (s : State) (n' : List ℕ) → eqb number 0 ≡ true → n' ≡ head_stored n s → Kept n number s 0 n'
 kept_done n number s n' e f = record { answer = sym (eqb-true number 0 e); left = rw e f }
@@ -55,22 +55,22 @@ unfolding set_up_number first_of
 set_up_out = rw none_out
 
 module _ (m n : List ℕ) {s : Settings} {a : Answer} (f : s ≡ settings_or_none m) (d : SetUpSays s a) where
-  first_number : (later : ℕ) → or_else (on_settings m (set_up_number (settings_from m))) later ≡ or_else (number_of a.refusal) later
+  first_number : (later : ℕ) → or_else (on_settings m (set_up_number (settings_from m))) later ≡ or_else (told a.refusal) later
   first_number later = ap (λ (k : ℕ). or_else k later) (sym (d.refusal ∙ ap set_up_number f ∙ settings_number m set_up_number set_up_out))
 
-  pub set_up_other : {r : ℕ} → r ≡ or_else (number_of a.refusal) bad_array → (length n ≡ state_count → ⊥) → SetUpFace m n r n
+  pub set_up_other : {r : ℕ} → r ≡ or_else (told a.refusal) bad_array → (length n ≡ state_count → ⊥) → SetUpFace m n r n
   set_up_other g k = record { number = rw (ne_eqb _ _ k) (g ∙ sym (first_number bad_array)); numbers = rw (ne_eqb _ _ k) }
 
-  pub set_up_refused : {r : ℕ} {n' : List ℕ} → length n ≡ state_count → eqb (number_of a.refusal) 0 ≡ false → n' ≡ pasted n 0 (replicate state_count 0) → r ≡ number_of a.refusal → SetUpFace m n r n'
+  pub set_up_refused : {r : ℕ} {n' : List ℕ} → length n ≡ state_count → eqb (told a.refusal) 0 ≡ false → n' ≡ pasted n 0 (replicate state_count 0) → r ≡ told a.refusal → SetUpFace m n r n'
   set_up_refused k h e g =
       let zeros : List ℕ = replicate state_count 0 in
       let whole : length zeros ≡ length n = length-replicate {A = ℕ} state_count 0 ∙ sym k in
       record {
-        number = rw (eq-eqb _ _ k) (g ∙ sym (first_number 0 ∙ none_later (number_of a.refusal)));
+        number = rw (eq-eqb _ _ k) (g ∙ sym (first_number 0 ∙ none_later (told a.refusal)));
         numbers = rw (eq-eqb _ _ k, ap (λ (j : ℕ). eqb j 0) g ∙ h) (e ∙ pasted_fits n 0 zeros (omega arith) ∙ splice_all n zeros whole);
       }
 
-  pub set_up_face : {n' : List ℕ} → eqb (number_of a.refusal) 0 ≡ true → length n ≡ state_count → n' ≡ state_stored n a.state m → SetUpFace m n 0 n'
+  pub set_up_face : {n' : List ℕ} → eqb (told a.refusal) 0 ≡ true → length n ≡ state_count → n' ≡ state_stored n a.state m → SetUpFace m n 0 n'
   unfolding numbers_of idle
   set_up_face h k g =
       let accepted : set_up_number s ≡ 0 = sym d.refusal ∙ eqb-true _ 0 h in
@@ -94,13 +94,13 @@ unfolding with_block
 block_same block events s = (refl, refl)
 
 pub open_block_face : (n words : List ℕ) (block events : ℕ) {s : State} {a : Answer} {r : ℕ} {n' words' : List ℕ} → s ≡ state_or_none n
-    → OpenBlockSays s words block events a words' → Kept n (number_of a.refusal) a.state r n' → OpenBlockFace n words block events r n' words'
+    → OpenBlockSays s words block events a words' → Kept n (told a.refusal) a.state r n' → OpenBlockFace n words block events r n' words'
 open_block_face n words block events f d k =
     let number : State → ℕ = λ x. open_block_number x (length words) block events in
     let g = k.answer ∙ d.refusal in
     record {
       number = call_number n number (block_out (length words) block events) f g;
-      numbers = call_numbers n number (block_out (length words) block events) f g (λ (x : State). block_opened x block events) (block_same block events) d.state (told k);
+      numbers = call_numbers n number (block_out (length words) block events) f g (λ (x : State). block_opened x block events) (block_same block events) d.state (left k);
       buffer = call_lent n number (block_out (length words) block events) f g (λ (x : State). splice words x.words (words_of (block_items x.settings block events))) words d.buffer;
     }
 
@@ -110,11 +110,11 @@ event_out : (event time : ℕ) → open_event_number blank event time ≡ number
 unfolding open_event_number open_event_table first_of
 event_out event time = rw blank_out
 
-pub event_room : (n : List ℕ) (event time : ℕ) {s : State} {a : Answer} → s ≡ state_or_none n → OpenEventSays s event time a → number_of a.refusal ≡ 0 → front_count ≤ length n
+pub event_room : (n : List ℕ) (event time : ℕ) {s : State} {a : Answer} → s ≡ state_or_none n → OpenEventSays s event time a → told a.refusal ≡ 0 → front_count ≤ length n
 event_room n event time f d e = omega (arith, state_count_lem n (call_accepted n (λ x. open_event_number x event time) (event_out event time) f d.refusal e))
 
 pub open_event_face : (n : List ℕ) (event time : ℕ) {s : State} {a : Answer} {r : ℕ} {n' : List ℕ} → s ≡ state_or_none n
-    → OpenEventSays s event time a → r ≡ number_of a.refusal → n' ≡ if_accepted r (event_placed n event time a.state.scalers.triggers) n → OpenEventFace n event time r n'
+    → OpenEventSays s event time a → r ≡ told a.refusal → n' ≡ if_accepted r (event_placed n event time a.state.scalers.triggers) n → OpenEventFace n event time r n'
 open_event_face n event time {s} {a} f d h k =
     let number : State → ℕ = λ x. open_event_number x event time in
     let new : State → State = λ x. with_event x event time in
@@ -134,14 +134,14 @@ unfolding post_number post_table first_of
 mark_out room c w = rw blank_out
 
 pub mark_room : (n store : List ℕ) (c : ℕ) (w : List ℕ) {s : State} {a : Answer} {store' : List ℕ} → s ≡ state_or_none n
-    → PostSays s store c w a store' → number_of a.refusal ≡ 0 → MarkFits n c
+    → PostSays s store c w a store' → told a.refusal ≡ 0 → MarkFits n c
 mark_room n store c w f d e =
     let state = call_accepted n (λ x. post_number x (length store) c w) (mark_out (length store) c w) f d.refusal e in
     let a = post_accepted _ (length store) c w (sym d.refusal ∙ e) in
     record { long = omega (arith, state_count_lem n state); small = omega (arith, front_held n state marks_at (omega arith)); channel = omega (arith, a.channel) }
 
 pub post_face : (n store : List ℕ) (c : ℕ) (w : List ℕ) {s : State} {a : Answer} {r : ℕ} {n' store' : List ℕ} → s ≡ state_or_none n
-    → PostSays s store c w a store' → r ≡ number_of a.refusal → n' ≡ if_accepted r (mark_placed n c) n → PostFace n store c w r n' store'
+    → PostSays s store c w a store' → r ≡ told a.refusal → n' ≡ if_accepted r (mark_placed n c) n → PostFace n store c w r n' store'
 post_face n store c w f d h k =
     let number : State → ℕ = λ x. post_number x (length store) c w in
     let g = h ∙ d.refusal in
@@ -165,14 +165,14 @@ unfolding with_closed
 close_same asked store s = (refl, refl)
 
 pub close_face : (n store words : List ℕ) (asked : Bool) {s : State} {a : Answer} {r : ℕ} {n' words' : List ℕ} → s ≡ state_or_none n
-    → CloseSays s store words asked a words' → Kept n (number_of a.refusal) a.state r n' → CloseFace n store words asked r n' words'
+    → CloseSays s store words asked a words' → Kept n (told a.refusal) a.state r n' → CloseFace n store words asked r n' words'
 close_face n store words asked f d k =
     let number : State → ℕ = λ x. close_number x asked store (length words) in
     let out = close_out asked store (length words) in
     let g = k.answer ∙ d.refusal in
     record {
       number = call_number n number out f g;
-      numbers = call_numbers n number out f g (λ (x : State). event_closed x asked store) (close_same asked store) d.state (told k);
+      numbers = call_numbers n number out f g (λ (x : State). event_closed x asked store) (close_same asked store) d.state (left k);
       buffer = call_lent n number out f g (λ (x : State). splice words x.words (words_of (closing_items x asked store))) words d.buffer;
     }
 
@@ -188,7 +188,7 @@ idle_same s = (refl, refl)
 
 -- the number, the state and the words; j is the number of the refusal
 pub finish_face : (n words : List ℕ) {s : State} {a : Finished} {j r : ℕ} {n' words' : List ℕ} → s ≡ state_or_none n
-    → FinishSays s words a words' → Kept n (number_of a.refusal) a.state j n' → r ≡ in_high j a.length → FinishFace n words r n' words'
+    → FinishSays s words a words' → Kept n (told a.refusal) a.state j n' → r ≡ in_high j a.length → FinishFace n words r n' words'
 finish_face n words {a = a} {j = j} f d k h =
     let number : State → ℕ = λ x. finish_number x (length words) in
     let g = k.answer ∙ d.refusal in
@@ -197,7 +197,7 @@ finish_face n words {a = a} {j = j} f d k h =
     let new : State → List ℕ = λ x. splice words x.words (words_of (end_items x.settings x.words)) in
     record {
       number = h ∙ high (eqb j 0) a.length (size (state_from n)) (j * 2 ^ 32) (call_lent n number (idle_out (length words)) f g size 0 d.size) ∙ ap (λ (i : ℕ). in_high i (size (state_from n))) same;
-      numbers = call_numbers n number (idle_out (length words)) f g (λ (x : State). idle x.settings x.scalers) idle_same d.state (told k) ∙ ap (λ (i : ℕ). if_accepted i (numbers_of (idle (state_from n).settings (state_from n).scalers)) n) same;
+      numbers = call_numbers n number (idle_out (length words)) f g (λ (x : State). idle x.settings x.scalers) idle_same d.state (left k) ∙ ap (λ (i : ℕ). if_accepted i (numbers_of (idle (state_from n).settings (state_from n).scalers)) n) same;
       buffer = call_lent n number (idle_out (length words)) f g new words d.buffer ∙ ap (λ (i : ℕ). if_accepted i (new (state_from n)) words) same;
     }
   where

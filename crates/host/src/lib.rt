@@ -3,63 +3,55 @@
 #![tactic(auto)]
 
 ghost use Rattle.std.specs.Prelude.{◌≡◌, ◌≤◌, length, true, false};
-ghost use Rattle.refusals.specs.Refusal.{number_of};
+ghost use Rattle.refusals.specs.Refusal.{told};
 ghost use Rattle.places.specs.Places.{front_count};
-ghost use Rattle.host.specs.Face.{SetUpFace, OpenBlockFace, OpenEventFace, PostFace, CloseFace, FinishFace, in_high};
+ghost use Rattle.host.specs.Face.{SetUpFace, OpenBlockFace, OpenEventFace, PostFace, CloseFace, FinishFace};
 ghost use Rattle.host.specs.Inner.{Kept, event_placed, MarkFits, mark_placed};
 
 use numbers::load::{settings_or_none, state_or_none};
 use numbers::store::{phase_number, put_head, put_state};
 use refusals::Refusal;
 use state::{Phase, State};
-use writer::Answer;
 
 pub fn fadc250_set_up(settings: &[u64], state: &mut [u64]) -> u32
     ensures { SetUpFace settings.now state.old result state.new }
 {
-    let loaded = settings_or_none(settings);
-    let answer = writer::set_up(loaded);
-    let refusal = answer.refusal;
+    let answer = writer::set_up(settings_or_none(settings));
     if state.len() != places::STATE {
-        return refusals::or_bad_array(refusal);
+        return refusals::told_bad_array(answer);
     }
-    if !refusals::accepted(refusal) {
-        // no call takes zeros for a state
-        let zeros: [u64; places::STATE] = [0; places::STATE];
-        copies::put64(state, 0, &zeros);
-        return refusals::number(refusal);
+    match answer {
+        Ok(new) => {
+            put_state(state, new, settings);
+            0
+        }
+        Err(refusal) => {
+            // no call takes zeros for a state
+            copies::put(state, 0, &[0; places::STATE]);
+            refusal.number()
+        }
     }
-    let new = answer.state;
-    put_state(state, new, settings);
-    0
 }
 
 // What a call on a state ends with: an accepted one stores the state, and either answers its number.
-fn put_back(numbers: &mut [u64], refusal: Refusal, state: State) -> u32
-    ensures { Kept numbers.old (number_of refusal) state result numbers.new }
+fn put_back(numbers: &mut [u64], answer: Result<(), Refusal>, state: State) -> u32
+    ensures { Kept numbers.old (told answer) state result numbers.new }
 {
-    if refusals::accepted(refusal) {
-        put_head(numbers, state);
-        return 0;
+    match answer {
+        Ok(()) => {
+            put_head(numbers, state);
+            0
+        }
+        Err(refusal) => refusal.number(),
     }
-    refusals::number(refusal)
-}
-
-// The same of an answer.
-fn put_answer(numbers: &mut [u64], answer: Answer) -> u32
-    ensures { Kept numbers.old (number_of answer.refusal) answer.state result numbers.new }
-{
-    let refusal = answer.refusal;
-    let state = answer.state;
-    put_back(numbers, refusal, state)
 }
 
 pub fn fadc250_open_block(state: &mut [u64], words: &mut [u32], number: u32, events: u32) -> u32
     ensures { OpenBlockFace state.old words.old number events result state.new words.new }
 {
-    let loaded = state_or_none(state);
-    let answer = writer::open_block(loaded, words, number, events);
-    put_answer(state, answer)
+    let mut loaded = state_or_none(state);
+    let answer = writer::open_block(&mut loaded, words, number, events);
+    put_back(state, answer, loaded)
 }
 
 // What an accepted opening changes of a state's numbers: the phase, the event's number and its time, and the triggers.
@@ -76,16 +68,14 @@ fn place_event(numbers: &mut [u64], number: u32, time: u64, triggers: u32)
 pub fn fadc250_open_event(state: &mut [u64], number: u32, time: u64) -> u32
     ensures { OpenEventFace state.old number time result state.new }
 {
-    let loaded = state_or_none(state);
-    let answer = writer::open_event(loaded, number, time);
-    let refusal = answer.refusal;
-    if refusals::accepted(refusal) {
-        let opened = answer.state;
-        let counted = opened.scalers;
-        place_event(state, number, time, counted.triggers);
-        return 0;
+    let mut loaded = state_or_none(state);
+    match writer::open_event(&mut loaded, number, time) {
+        Ok(()) => {
+            place_event(state, number, time, loaded.scalers.triggers);
+            0
+        }
+        Err(refusal) => refusal.number(),
     }
-    refusals::number(refusal)
 }
 
 // What an accepted post changes of a state's numbers: the channel's bit, unset before, is set.
@@ -99,49 +89,42 @@ fn place_mark(numbers: &mut [u64], channel: u32)
 pub fn fadc250_post(state: &mut [u64], store: &mut [u16], channel: u32, window: &[u16]) -> u32
     ensures { PostFace state.old store.old channel window.now result state.new store.new }
 {
-    let loaded = state_or_none(state);
-    let answer = writer::post(loaded, store, channel as usize, window);
-    let refusal = answer.refusal;
-    if refusals::accepted(refusal) {
-        place_mark(state, channel);
-        return 0;
+    let mut loaded = state_or_none(state);
+    match writer::post(&mut loaded, store, channel as usize, window) {
+        Ok(()) => {
+            place_mark(state, channel);
+            0
+        }
+        Err(refusal) => refusal.number(),
     }
-    refusals::number(refusal)
 }
 
 pub fn fadc250_close(state: &mut [u64], store: &[u16], words: &mut [u32]) -> u32
     ensures { CloseFace state.old store.now words.old false result state.new words.new }
 {
-    let loaded = state_or_none(state);
-    let answer = closing::close(loaded, store, words, false);
-    put_answer(state, answer)
+    let mut loaded = state_or_none(state);
+    let answer = closing::close(&mut loaded, store, words, false);
+    put_back(state, answer, loaded)
 }
 
 pub fn fadc250_close_with_scalers(state: &mut [u64], store: &[u16], words: &mut [u32]) -> u32
     ensures { CloseFace state.old store.now words.old true result state.new words.new }
 {
-    let loaded = state_or_none(state);
-    let answer = closing::close(loaded, store, words, true);
-    put_answer(state, answer)
+    let mut loaded = state_or_none(state);
+    let answer = closing::close(&mut loaded, store, words, true);
+    put_back(state, answer, loaded)
 }
 
 // The refusal stands above the lower 32 bits, the block's length in them.
-fn in_high(number: u32, length: usize) -> u64
-    ensures { result ≡ in_high number length }
-{
-    if number == 0 {
-        return length as u64;
-    }
-    number as u64 * 4294967296
-}
-
 pub fn fadc250_finish(state: &mut [u64], words: &mut [u32]) -> u64
     ensures { FinishFace state.old words.old result state.new words.new }
 {
-    let loaded = state_or_none(state);
-    let finished = writer::finish(loaded, words);
-    let refusal = finished.refusal;
-    let new = finished.state;
-    let number = put_back(state, refusal, new);
-    in_high(number, finished.length)
+    let mut loaded = state_or_none(state);
+    match writer::finish(&mut loaded, words) {
+        Ok(length) => {
+            put_head(state, loaded);
+            length as u64
+        }
+        Err(refusal) => refusal.number() as u64 * 4294967296,
+    }
 }

@@ -1,15 +1,15 @@
 -- The numbers that a call leaves are those of the state that it gives. Assumes nothing.
-use Rattle.std.specs.Prelude.{ℕ, ◌≡◌, true, false, List, eqb, length, drop}
-use Rattle.std.proofs.Common.{sym, ap, ◌∙◌, arith, eqb-true, length-take, length-drop}
+use Rattle.std.specs.Prelude.{ℕ, ◌≡◌, true, List, length, drop}
+use Rattle.std.proofs.Common.{sym, ap, ◌∙◌, arith, length-take, length-drop}
 use Rattle.ground.specs.Tests.{first_of}
-use Rattle.refusals.specs.Refusal.{number_of, if_accepted}
+use Rattle.refusals.specs.Refusal.{number_of, told, if_accepted}
 use Rattle.refusals.specs.declared.Refusal.TheVariants as R
 use Rattle.scalers.specs.declared.Scalers.{Scalers}
 use Rattle.scalers.specs.Scalers.{frames_of, count_frames, latched_now, reset_now}
 use Rattle.state.specs.declared.State.{State}
 use Rattle.state.specs.State.{blank}
 use Rattle.state.specs.StateLaws.{blank_out}
-use Rattle.writer.specs.declared.Answer.{Answer}
+use Rattle.writer.specs.Answer.{Answer}
 use Rattle.places.specs.Places.{thresholds_at, front_count, is_state}
 use Rattle.places.specs.PlacesLaws.{state_count_lem}
 use Rattle.numbers.specs.Numbers.{settings_from, state_from, state_or_none, scalers_stored}
@@ -21,14 +21,8 @@ use Rattle.hostcount.specs.Face.{CountFace, LatchFace, ResetFace, Kept}
 
 -- ---- the inner function
 
-pub kept_done : (n : List ℕ) (number : ℕ) (c : Scalers) (n' : List ℕ) → eqb number 0 ≡ true → n' ≡ scalers_stored n c → Kept n number c 0 n'
-kept_done n number c n' e f = record { answer = sym (eqb-true number 0 e); left = rw e f }
-
-pub kept_refused : (n : List ℕ) (number : ℕ) (c : Scalers) (r : ℕ) → eqb number 0 ≡ false → r ≡ number → Kept n number c r n
-kept_refused n number c r e f = record { answer = f; left = rw e }
-
-told : {n : List ℕ} {number : ℕ} {c : Scalers} {r : ℕ} {n' : List ℕ} → Kept n number c r n' → n' ≡ if_accepted r (scalers_stored n c) n
-told {n = n} {c = c} k = k.left ∙ ap (λ (j : ℕ). if_accepted j (scalers_stored n c) n) (sym k.answer)
+left : {n : List ℕ} {number : ℕ} {c : Scalers} {r : ℕ} {n' : List ℕ} → Kept n number c r n' → n' ≡ if_accepted r (scalers_stored n c) n
+left {n = n} {c = c} k = k.left ∙ ap (λ (j : ℕ). if_accepted j (scalers_stored n c) n) (sym k.answer)
 
 -- ---- what a state's numbers hold
 
@@ -58,7 +52,7 @@ reset_out = rw blank_out
 
 -- ---- the calls
 
-module _ (n : List ℕ) {s : State} {a : Answer} {r : ℕ} {n' : List ℕ} (f : s ≡ state_or_none n) (k : Kept n (number_of a.refusal) a.state.scalers r n') where
+module _ (n : List ℕ) {s : State} {a : Answer} {r : ℕ} {n' : List ℕ} (f : s ≡ state_or_none n) (k : Kept n (told a.refusal) a.state.scalers r n') where
   pub count_face : (samples : List ℕ) → CountSays s samples a → CountFace n samples r n'
   count_face samples d =
       let number : State → ℕ = λ x. count_number x samples in
@@ -66,7 +60,7 @@ module _ (n : List ℕ) {s : State} {a : Answer} {r : ℕ} {n' : List ℕ} (f : 
       let new : State → Scalers = λ x. count_frames x.settings.thresholds x.scalers (frames_of samples) in
       record {
         number = call_number n number (count_out samples) f g;
-        numbers = call_scalers n number (count_out samples) f g new (λ e. scaler_size _ (sized_counted _ _ samples (thresholds n e) (loaded n e))) d.state (told k);
+        numbers = call_scalers n number (count_out samples) f g new (λ e. scaler_size _ (sized_counted _ _ samples (thresholds n e) (loaded n e))) d.state (left k);
       }
 
   pub latch_face : LatchSays s a → LatchFace n r n'
@@ -75,7 +69,7 @@ module _ (n : List ℕ) {s : State} {a : Answer} {r : ℕ} {n' : List ℕ} (f : 
       let new : State → Scalers = λ x. latched_now x.scalers in
       record {
         number = call_number n latch_number latch_out f g;
-        numbers = call_scalers n latch_number latch_out f g new (λ e. scaler_size _ (sized_latched _ (loaded n e))) d.state (told k);
+        numbers = call_scalers n latch_number latch_out f g new (λ e. scaler_size _ (sized_latched _ (loaded n e))) d.state (left k);
       }
 
   pub reset_face : ResetSays s a → ResetFace n r n'
@@ -84,5 +78,5 @@ module _ (n : List ℕ) {s : State} {a : Answer} {r : ℕ} {n' : List ℕ} (f : 
       let new : State → Scalers = λ x. reset_now x.scalers in
       record {
         number = call_number n reset_number reset_out f g;
-        numbers = call_scalers n reset_number reset_out f g new (λ e. scaler_size _ (sized_reset _ (loaded n e))) d.state (told k);
+        numbers = call_scalers n reset_number reset_out f g new (λ e. scaler_size _ (sized_reset _ (loaded n e))) d.state (left k);
       }

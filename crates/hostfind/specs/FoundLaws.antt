@@ -11,15 +11,16 @@ use Rattle.ground.specs.SpliceLaws.{splice_splice, length_splice}
 use Rattle.copies.specs.Copies.{pasted}
 use Rattle.copies.specs.CopiesLaws.{pasted_fits}
 use Rattle.settings.specs.declared.Settings.{Settings}
-use Rattle.refusals.specs.Refusal.{number_of, bad_array, if_accepted, or_else}
+use Rattle.refusals.specs.Refusal.{number_of, told, bad_array, if_accepted, or_else}
 use Rattle.refusals.specs.RefusalLaws.{none_later}
 use Rattle.refusals.specs.declared.Refusal.TheVariants as R
-use Rattle.find.specs.declared.FindAnswer.{FindAnswer}
+use Rattle.std.specs.declared.result.Result.{Result}
+use Rattle.refusals.specs.declared.Refusal.{Refusal}
 use Rattle.finder.specs.declared.Pulse.{Pulse}
 use Rattle.finder.specs.declared.Pulses.{Pulses}
 use Rattle.finder.specs.Find.{no_pulse, packed}
 use Rattle.finder.specs.RangeLaws.{PulseFits, EachFits, fits_at, pulses_fit, pulses_count, packed_count, packed_at}
-use Rattle.find.specs.Call.{find_table, find_number, channel_pulses, found_pulses, FindSays}
+use Rattle.find.specs.Call.{find_table, find_number, channel_pulses, found_pulses, found_in, FindSays}
 use Rattle.find.specs.CallLaws.{accepted, found_none, found_all}
 use Rattle.state.specs.State.{blank}
 use Rattle.places.specs.Places.{is_settings}
@@ -59,7 +60,7 @@ pulses_small s c w = go (eqb (find_number s c w) 0) refl
         (packed_small (length w) (channel_pulses s c w) (omega (arith, a.long, a.settings.nw)) (omega (arith, pulses_count w t s.nsb s.nsa s.limit 0, a.settings.limit)) (pulses_fit w t s.nsb s.nsa s.limit 0 a.settings.nsa.0))
     go false e = rw (found_none s c w e) (packed_small 0 [] (omega arith) (omega arith) tt)
 
-pub found_small : (s : Settings) (c : ℕ) (w : List ℕ) (a : FindAnswer) → FindSays s c w a → AllSmall a.found
+pub found_small : (s : Settings) (c : ℕ) (w : List ℕ) (a : Result Pulses Refusal) → FindSays s c w a → AllSmall (found_in a)
 found_small s c w a d = rw d.found (pulses_small s c w)
 
 -- ---- the rows
@@ -99,6 +100,10 @@ put_run l at new e f h =
     let g = f ∙ ap (pasted l at) e ∙ pasted_fits l at new h in
     (g, ap length g ∙ length_splice l at new h)
 
+-- zeros that have room are the numbers of no pulses
+pub none_put : (out : List ℕ) {out' : List ℕ} → found_count ≤ length out → out' ≡ pasted out 0 (replicate found_count 0) → out' ≡ splice out 0 (found_numbers (packed []))
+none_put out h f = f ∙ pasted_fits out 0 (replicate found_count 0) h ∙ ap (splice out 0) (sym none_zeros)
+
 -- four writings behind each other are one
 pub found_put : (out : List ℕ) (found : Pulses) {o p q r a b c : List ℕ} → found_count ≤ length out → a ≡ pulse_row found 0 → b ≡ pulse_row found 1 → c ≡ pulse_row found 2
     → o ≡ pasted out 0 (found.count ∷ []) → p ≡ pasted o 1 a → q ≡ pasted p (1 + pulse_count) b → r ≡ pasted q (1 + 2 * pulse_count) c → r ≡ splice out 0 (found_numbers found)
@@ -132,30 +137,30 @@ find_out : (c : ℕ) (w : List ℕ) → find_number blank.settings c w ≡ numbe
 unfolding find_number find_table first_of
 find_out c w = rw none_out
 
-module _ (m : List ℕ) (c : ℕ) (w out : List ℕ) {s : Settings} {a : FindAnswer} (f : s ≡ settings_or_none m) (d : FindSays s c w a) where
-  first_number : (later : ℕ) → or_else (on_settings m (find_number (settings_from m) c w)) later ≡ or_else (number_of a.refusal) later
+module _ (m : List ℕ) (c : ℕ) (w out : List ℕ) {s : Settings} {a : Result Pulses Refusal} (f : s ≡ settings_or_none m) (d : FindSays s c w a) where
+  first_number : (later : ℕ) → or_else (on_settings m (find_number (settings_from m) c w)) later ≡ or_else (told a) later
   first_number later = ap (λ (k : ℕ). or_else k later) (sym (d.refusal ∙ ap (λ (x : Settings). find_number x c w) f ∙ settings_number m (λ (x : Settings). find_number x c w) (find_out c w)))
 
-  pub find_short : {r : ℕ} → r ≡ or_else (number_of a.refusal) bad_array → length out < found_count → FindFace m c w out r out
+  pub find_short : {r : ℕ} → r ≡ or_else (told a) bad_array → length out < found_count → FindFace m c w out r out
   find_short g k = record { number = rw (lt-ltb _ _ k) (g ∙ sym (first_number bad_array)); numbers = rw (lt-ltb _ _ k) }
 
   -- an accepted call's pulses are those of the numbers' settings, and a refused one has none
-  told : found_numbers a.found ≡ if_accepted (number_of a.refusal) (found_numbers (packed (found_pulses (settings_from m) c w))) (replicate found_count 0)
-  told = ap found_numbers d.found ∙ sym (found_or_zeros s c w) ∙ go (is_settings m) f
+  found_told : found_numbers (found_in a) ≡ if_accepted (told a) (found_numbers (packed (found_pulses (settings_from m) c w))) (replicate found_count 0)
+  found_told = ap found_numbers d.found ∙ sym (found_or_zeros s c w) ∙ go (is_settings m) f
     where
       numbers : Settings → List ℕ
       numbers x = found_numbers (packed (found_pulses x c w))
 
       go : (b : Bool) → s ≡ cond b (settings_from m) blank.settings
-          → if_accepted (find_number s c w) (numbers s) (replicate found_count 0) ≡ if_accepted (number_of a.refusal) (numbers (settings_from m)) (replicate found_count 0)
+          → if_accepted (find_number s c w) (numbers s) (replicate found_count 0) ≡ if_accepted (told a) (numbers (settings_from m)) (replicate found_count 0)
       go true p = ap₂ (λ (k : ℕ) (x : Settings). if_accepted k (numbers x) (replicate found_count 0)) (sym d.refusal) p
       go false p = rw (d.refusal, ap (λ (x : Settings). find_number x c w) p ∙ find_out c w)
 
-  pub find_face : {r : ℕ} {out' : List ℕ} → found_count ≤ length out → out' ≡ splice out 0 (found_numbers a.found) → r ≡ number_of a.refusal → FindFace m c w out r out'
+  pub find_face : {r : ℕ} {out' : List ℕ} → found_count ≤ length out → out' ≡ splice out 0 (found_numbers (found_in a)) → r ≡ told a → FindFace m c w out r out'
   find_face k e g =
       record {
-        number = rw (le-ltb _ _ k) (g ∙ sym (first_number 0 ∙ none_later (number_of a.refusal)));
-        numbers = rw (le-ltb _ _ k, g) (e ∙ ap (splice out 0) told);
+        number = rw (le-ltb _ _ k) (g ∙ sym (first_number 0 ∙ none_later (told a)));
+        numbers = rw (le-ltb _ _ k, g) (e ∙ ap (splice out 0) found_told);
       }
 
 -- numbers that are no settings: no pulses, where they have room

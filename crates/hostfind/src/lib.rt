@@ -1,8 +1,9 @@
 // What C calls to find pulses: those of one window, as numbers that the host lends.
 #![tactic(auto)]
 
-ghost use Rattle.std.specs.Prelude.{◌≡◌, ◌<◌, ◌≤◌, length};
+ghost use Rattle.std.specs.Prelude.{◌≡◌, ◌<◌, ◌≤◌, length, replicate};
 ghost use Rattle.ground.specs.Splice.{splice};
+ghost use Rattle.copies.specs.Copies.{pasted};
 ghost use Rattle.hostfind.specs.Found.{pulse_numbers, pulse_row, found_count, found_numbers, FindFace};
 ghost use Rattle.hostfind.specs.Inner.{Small, AllSmall};
 
@@ -29,7 +30,7 @@ fn pulse_numbers(pulse: Pulse) -> [u32; PULSE]
 {
     let time = pulse.time;
     let rule = time.rule;
-    let rule_is = timing::rule_number(rule);
+    let rule_is = rule.number();
     [
         pulse.tc as u32,
         pulse.first as u32,
@@ -64,10 +65,17 @@ fn put_found(out: &mut [u32], found: Pulses)
     let first = pulse_row(found, 0);
     let second = pulse_row(found, 1);
     let third = pulse_row(found, 2);
-    copies::put32(out, 0, &count);
-    copies::put32(out, FIRST, &first);
-    copies::put32(out, SECOND, &second);
-    copies::put32(out, THIRD, &third);
+    copies::put(out, 0, &count);
+    copies::put(out, FIRST, &first);
+    copies::put(out, SECOND, &second);
+    copies::put(out, THIRD, &third);
+}
+
+// No pulses are left of an older window.
+fn clear(out: &mut [u32])
+    ensures { out.new ≡ pasted out.old 0 (replicate found_count 0) }
+{
+    copies::put(out, 0, &[0; FOUND]);
 }
 
 pub fn fadc250_find(settings: &[u64], channel: u32, window: &[u16], out: &mut [u32]) -> u32
@@ -75,17 +83,22 @@ pub fn fadc250_find(settings: &[u64], channel: u32, window: &[u16], out: &mut [u
 {
     // Asked before they are loaded, which asks again: the compiler then keeps no number for both ways, and asks once.
     if !is_settings(settings) {
-        let zeros = [0u32; FOUND];
-        copies::put32(out, 0, &zeros);
-        return refusals::number(Refusal::Setting);
+        clear(out);
+        return Refusal::Setting.number();
     }
     let loaded = settings_or_none(settings);
     let answer = find::find(loaded, channel as usize, window);
-    let refusal = answer.refusal;
     if out.len() < FOUND {
-        return refusals::or_bad_array(refusal);
+        return refusals::told_bad_array(answer);
     }
-    let found = answer.found;
-    put_found(out, found);
-    refusals::number(refusal)
+    match answer {
+        Ok(found) => {
+            put_found(out, found);
+            0
+        }
+        Err(refusal) => {
+            clear(out);
+            refusal.number()
+        }
+    }
 }

@@ -9,8 +9,6 @@ ghost use Rattle.reading.specs.Reading.{NextFace};
 ghost use Rattle.listing.specs.Listing.{long_listing_of};
 ghost use Rattle.listing.specs.Says.{LengthSays};
 
-use listing::Listed;
-
 pub fn fadc250_next(scan: &mut [u32], words: &[u32], out: &mut [u64]) -> u64
     ensures { NextFace scan.old words.now out.old result scan.new out.new }
 {
@@ -28,7 +26,7 @@ pub fn fadc250_list(bytes: &[u8], text: &mut [u8]) -> u64
     ensures { LengthSays (long_listing_of bytes.now) text.old result text.new }
 {
     match listing::list_long(bytes, text) {
-        Listed::Text(length) => length as u64,
-        Listed::NoRoom(length) => length as u64,
+        Ok(length) => length as u64,
+        Err(room) => room.needed as u64,
     }
 }

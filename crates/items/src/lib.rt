@@ -6,6 +6,7 @@ ghost use Rattle.items.specs.Items.{word_of, item_from, fixed_in};
 
 pub mod put;
 
+use fields::record::Record;
 use framing::block_header::BlockHeader;
 use framing::empty::ModuleEmpty;
 use framing::event_header::EventHeader;
@@ -23,7 +24,8 @@ use raw::pair::SamplePair;
 use raw::pulse_raw::PulseRaw;
 use raw::window::WindowRaw;
 
-// Which of the records a word is read as.
+// Which of the records a word is read as. No record yet: what stands before a word and its tag tell its form, and the form how it is
+// taken apart and what is asked of it.
 #[derive(Clone, Copy)]
 pub enum Form {
     Block,
@@ -66,6 +68,7 @@ pub enum Item {
 }
 
 impl Item {
+    #[tactic(auto, unfolding(crate::specs::Items::word_of))]
     pub fn build(self) -> u32
         ensures { result ≡ word_of self }
     {
@@ -121,19 +124,19 @@ pub fn fixed(form: Form, word: u32) -> bool
     match form {
         Form::Block => BlockHeader::fixed(word),
         Form::Parameters => Parameters::fixed(word),
-        Form::Trailer => true,
-        Form::Event => true,
-        Form::Clock => true,
         Form::ClockHigh => TriggerTimeHigh::fixed(word),
         Form::Window => WindowRaw::fixed(word),
         Form::Raw => PulseRaw::fixed(word),
         Form::Pair => SamplePair::fixed(word),
-        Form::Integral => true,
         Form::Time => PulseTime::fixed(word),
-        Form::Pedestal => true,
-        Form::Empty => true,
-        Form::Filler => true,
         Form::Scalers => ScalerHeader::fixed(word),
-        Form::Scaler => true,
+        Form::Trailer
+        | Form::Event
+        | Form::Clock
+        | Form::Integral
+        | Form::Pedestal
+        | Form::Empty
+        | Form::Filler
+        | Form::Scaler => true,
     }
 }

@@ -1,3 +1,2 @@
--- The line of each record, and its laws.
+-- The line of each record.
 pub mod Lines
-pub mod LinesLaws

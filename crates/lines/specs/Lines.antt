@@ -1,5 +1,7 @@
 -- The line of each record of the format. The only place that knows a line's cells. Assumes nothing.
 use Rattle.std.specs.Prelude.{ℕ, ◌+◌, ◌*◌, ◌^◌, cond, List, [], ◌∷◌, map, eqb}
+use Rattle.std.specs.declared.option.Option.{Option}
+use Rattle.std.specs.declared.option.Option.TheVariants.{Some, None}
 use Rattle.framing.specs.declared.block_header.BlockHeader.{BlockHeader}
 use Rattle.framing.specs.declared.parameters.Parameters.{Parameters}
 use Rattle.framing.specs.declared.trailer.BlockTrailer.{BlockTrailer}
@@ -13,8 +15,6 @@ use Rattle.measures.specs.declared.integral.PulseIntegral.{PulseIntegral}
 use Rattle.measures.specs.declared.time.PulseTime.{PulseTime}
 use Rattle.measures.specs.declared.pedestal.PulsePedestal.{PulsePedestal}
 use Rattle.written.specs.Line.{Number, cell_of, Line, line_of}
-use Rattle.lines.specs.declared.Second.{Second}
-use Rattle.lines.specs.declared.Second.TheVariants as S
 
 -- ---- the names, letter by letter
 
@@ -81,9 +81,9 @@ abbrev pub event_line : EventHeader → Line
 event_line r = line_of event_name (Number r.number ∷ [])
 
 -- "clock: 48-bit time" of two time words, the second holding bits 47-24; "`clock27` low 27 bits" of one
-abbrev pub clock_line : TriggerTime → Second → Line
-clock_line r S.Nothing = line_of clock27_name (Number (r.middle * 2 ^ 24 + r.low) ∷ [])
-clock_line r (S.High high) = line_of clock_name (Number (high * 2 ^ 24 + r.low) ∷ [])
+abbrev pub clock_line : TriggerTime → Option ℕ → Line
+clock_line r None = line_of clock27_name (Number (r.middle * 2 ^ 24 + r.low) ∷ [])
+clock_line r (Some high) = line_of clock_name (Number (high * 2 ^ 24 + r.low) ∷ [])
 
 -- "`window` channel, width"
 abbrev pub window_line : WindowRaw → Line

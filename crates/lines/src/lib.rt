@@ -1,7 +1,7 @@
 // The line of each record, put on a page.
 #![tactic(auto)]
 
-ghost use Rattle.std.specs.Prelude.{◌≡◌, cond, ◌≤◌, eqb};
+ghost use Rattle.std.specs.Prelude.{◌≡◌};
 ghost use Rattle.written.specs.Page.{put};
 ghost use Rattle.written.specs.Line.{line_text, text_of};
 ghost use Rattle.lines.specs.Lines.{block_line, setup_line, event_line, clock_line, window_line, pulse_line, pair_line, integral_line, time_line, ped_line, end_line, empty_line, refused_line, fill_lines};
@@ -20,47 +20,40 @@ use raw::pulse_raw::PulseRaw;
 use raw::window::WindowRaw;
 
 // A second time word's bits begin at bit 24 of the time.
-const BIT_24: u64 = 16777216;
-
-// What follows a first time word: a second with time bits 47-24, or none.
-#[derive(Clone, Copy)]
-pub enum Second {
-    Nothing,
-    High(u32),
-}
+const BIT_24: u64 = 1 << 24;
 
 pub fn put_block(text: &mut [u8], at: usize, r: BlockHeader) -> usize
     ensures { (text.new, result) ≡ put (text.old, at) (line_text (block_line r)) }
 {
-    let cells = [r.slot as u64, r.number as u64, r.events as u64];
+    let cells = [u64::from(r.slot), u64::from(r.number), u64::from(r.events)];
     text::put_line(text, at, b"block", &cells, 0)
 }
 
 pub fn put_setup(text: &mut [u8], at: usize, r: Parameters) -> usize
     ensures { (text.new, result) ≡ put (text.old, at) (line_text (setup_line r)) }
 {
-    let cells = [r.pl as u64, r.nsb as u64, r.nsa as u64];
+    let cells = [u64::from(r.pl), u64::from(r.nsb), u64::from(r.nsa)];
     text::put_line(text, at, b"setup", &cells, 0)
 }
 
 pub fn put_event(text: &mut [u8], at: usize, r: EventHeader) -> usize
     ensures { (text.new, result) ≡ put (text.old, at) (line_text (event_line r)) }
 {
-    let cells = [r.number as u64];
+    let cells = [u64::from(r.number)];
     text::put_line(text, at, b"event", &cells, 0)
 }
 
-// One time word: the low 27 bits. Two: the 48-bit time.
-pub fn put_clock(text: &mut [u8], at: usize, r: TriggerTime, second: Second) -> usize
+// One time word: the low 27 bits. Two, the second with time bits 47-24: the 48-bit time.
+pub fn put_clock(text: &mut [u8], at: usize, r: TriggerTime, second: Option<u32>) -> usize
     ensures { (text.new, result) ≡ put (text.old, at) (line_text (clock_line r second)) }
 {
     match second {
-        Second::Nothing => {
-            let cells = [(r.middle as u64) * BIT_24 + r.low as u64];
+        None => {
+            let cells = [u64::from(r.middle) * BIT_24 + u64::from(r.low)];
             text::put_line(text, at, b"clock27", &cells, 0)
         }
-        Second::High(high) => {
-            let cells = [(high as u64) * BIT_24 + r.low as u64];
+        Some(high) => {
+            let cells = [u64::from(high) * BIT_24 + u64::from(r.low)];
             text::put_line(text, at, b"clock", &cells, 0)
         }
     }
@@ -69,28 +62,23 @@ pub fn put_clock(text: &mut [u8], at: usize, r: TriggerTime, second: Second) -> 
 pub fn put_window(text: &mut [u8], at: usize, r: WindowRaw) -> usize
     ensures { (text.new, result) ≡ put (text.old, at) (line_text (window_line r)) }
 {
-    let cells = [r.channel as u64, r.width as u64];
+    let cells = [u64::from(r.channel), u64::from(r.width)];
     text::put_line(text, at, b"window", &cells, 0)
 }
 
 pub fn put_pulse(text: &mut [u8], at: usize, r: PulseRaw) -> usize
     ensures { (text.new, result) ≡ put (text.old, at) (line_text (pulse_line r)) }
 {
-    let cells = [r.channel as u64, r.pulse as u64, r.tc as u64];
+    let cells = [u64::from(r.channel), u64::from(r.pulse), u64::from(r.tc)];
     text::put_line(text, at, b"pulse", &cells, 0)
 }
 
-fn dash_for(flag: u32) -> u32
-    ensures { (result ≡ cond (eqb flag 1) 1 0) × (result ≤ 1) }
-{
-    if flag == 1 { 1 } else { 0 }
-}
-
+// A dash for each sample that is flagged.
 pub fn put_pair(text: &mut [u8], at: usize, r: SamplePair) -> usize
     ensures { (text.new, result) ≡ put (text.old, at) (line_text (pair_line r)) }
 {
-    let cells = [r.first as u64, r.second as u64];
-    let dashes = dash_for(r.nofirst) + 2 * dash_for(r.nosecond);
+    let cells = [u64::from(r.first), u64::from(r.second)];
+    let dashes = u32::from(r.nofirst == 1) + 2 * u32::from(r.nosecond == 1);
     text::put_line(text, at, b"pair", &cells, dashes)
 }
 
@@ -98,10 +86,10 @@ pub fn put_integral(text: &mut [u8], at: usize, r: PulseIntegral) -> usize
     ensures { (text.new, result) ≡ put (text.old, at) (line_text (integral_line r)) }
 {
     let cells = [
-        r.channel as u64,
-        r.pulse as u64,
-        r.quality as u64,
-        r.sum as u64,
+        u64::from(r.channel),
+        u64::from(r.pulse),
+        u64::from(r.quality),
+        u64::from(r.sum),
     ];
     text::put_line(text, at, b"integral", &cells, 0)
 }
@@ -110,11 +98,11 @@ pub fn put_time(text: &mut [u8], at: usize, r: PulseTime) -> usize
     ensures { (text.new, result) ≡ put (text.old, at) (line_text (time_line r)) }
 {
     let cells = [
-        r.channel as u64,
-        r.pulse as u64,
-        r.quality as u64,
-        r.coarse as u64,
-        r.fine as u64,
+        u64::from(r.channel),
+        u64::from(r.pulse),
+        u64::from(r.quality),
+        u64::from(r.coarse),
+        u64::from(r.fine),
     ];
     text::put_line(text, at, b"time", &cells, 0)
 }
@@ -123,10 +111,10 @@ pub fn put_ped(text: &mut [u8], at: usize, r: PulsePedestal) -> usize
     ensures { (text.new, result) ≡ put (text.old, at) (line_text (ped_line r)) }
 {
     let cells = [
-        r.channel as u64,
-        r.pulse as u64,
-        r.vmin as u64,
-        r.vpeak as u64,
+        u64::from(r.channel),
+        u64::from(r.pulse),
+        u64::from(r.vmin),
+        u64::from(r.vpeak),
     ];
     text::put_line(text, at, b"ped", &cells, 0)
 }
@@ -134,21 +122,21 @@ pub fn put_ped(text: &mut [u8], at: usize, r: PulsePedestal) -> usize
 pub fn put_end(text: &mut [u8], at: usize, r: BlockTrailer) -> usize
     ensures { (text.new, result) ≡ put (text.old, at) (line_text (end_line r)) }
 {
-    let cells = [r.words as u64];
+    let cells = [u64::from(r.words)];
     text::put_line(text, at, b"end", &cells, 0)
 }
 
 pub fn put_empty(text: &mut [u8], at: usize, r: ModuleEmpty) -> usize
     ensures { (text.new, result) ≡ put (text.old, at) (line_text (empty_line r)) }
 {
-    let cells = [r.slot as u64];
+    let cells = [u64::from(r.slot)];
     text::put_line(text, at, b"empty", &cells, 0)
 }
 
 pub fn put_refused(text: &mut [u8], at: usize, number: u32, place: u32) -> usize
     ensures { (text.new, result) ≡ put (text.old, at) (line_text (refused_line number place)) }
 {
-    let cells = [number as u64, place as u64];
+    let cells = [u64::from(number), u64::from(place)];
     text::put_line(text, at, b"refused", &cells, 0)
 }
 

@@ -1,33 +1,26 @@
 // Lists standard input, the bytes of blocks, on standard output: a line a record. What fails is told on standard error.
 #![tactic(auto)]
 
-ghost use Rattle.lister.specs.Within.{Within};
+ghost use Rattle.std.specs.Prelude.{◌≤◌, length, IfOk};
 
-use listing::{LONGEST, Listed};
+use listing::LONGEST;
 use std::fmt::InlineText;
 use std::io;
 use std::io::Read;
 
-// How many bytes were read; or that reading failed, and why.
-#[derive(Clone, Copy)]
-enum Input {
-    Bytes(usize),
-    Failed(io::Error),
-}
-
-// Reads until the buffer is full or the input ends.
-fn read_all(from: &mut impl Read, input: &mut [u8]) -> Input
-    ensures { Within result input.new }
+// Reads until the buffer is full or the input ends; how many bytes they are.
+fn read_all(from: &mut impl Read, input: &mut [u8]) -> io::Result<usize>
+    ensures { IfOk result (λ count. count ≤ length input.new) }
 {
     let mut done: usize = 0;
+    // No step of a `for`: each is as long as what was read.
     while done < input.len() {
-        match from.read(&mut input[done..]) {
-            Err(error) => return Input::Failed(error),
-            Ok(0) => return Input::Bytes(done),
-            Ok(more) => done += more,
+        match from.read(&mut input[done..])? {
+            0 => break,
+            more => done += more,
         }
     }
-    Input::Bytes(done)
+    Ok(done)
 }
 
 // An error's text without its number, which stands behind it.
@@ -45,28 +38,19 @@ fn fail(rt: &impl Eprint, what: &str, error: io::Error) -> io::Result<()> {
     eprintln!(rt; "lister: {what}: {why}")
 }
 
-fn write_text(rt: &(impl Print + Eprint), text: &[u8]) -> io::Result<()> {
-    match rt.write_all(text) {
-        Ok(()) => Ok(()),
-        Err(error) => fail(rt, "the text could not be written", error),
-    }
-}
-
 // Writes the text of the bytes. The buffer has room for the longest.
 fn print(rt: &(impl Print + Eprint), bytes: &[u8]) -> io::Result<()> {
     let mut text = [0u8; 376854];
-    match listing::list(bytes, &mut text) {
-        Listed::Text(length) => write_text(rt, &text[..length]),
-        // Every text has room.
-        Listed::NoRoom(_) => unreachable!(),
-    }
+    let length = listing::list(bytes, &mut text).unwrap();
+    rt.write_all(&text[..length])
+        .or_else(|error| fail(rt, "the text could not be written", error))
 }
 
 // One byte more than an input may have is read, and no more.
 fn main(rt: HostRuntime) -> io::Result<()> {
     let mut input = [0u8; 65537];
     match read_all(&mut rt.stdin(), &mut input) {
-        Input::Bytes(count) => {
+        Ok(count) => {
             print(&rt, &input[..count])?;
             if LONGEST < count {
                 eprintln!(rt;
@@ -75,6 +59,6 @@ fn main(rt: HostRuntime) -> io::Result<()> {
             }
             Ok(())
         }
-        Input::Failed(error) => fail(&rt, "the input could not be read", error),
+        Err(error) => fail(&rt, "the input could not be read", error),
     }
 }

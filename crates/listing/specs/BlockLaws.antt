@@ -1,6 +1,6 @@
 -- Blocks one after another. Assumes nothing.
-use Rattle.std.specs.Prelude.{ℕ, zero, suc, ◌+◌, ◌-◌, ◌*◌, ◌≤◌, ◌<◌, ◌≡◌, refl, Bool, true, false, take, drop}
-use Rattle.std.proofs.Common.{sym, ◌∙◌, arith, drop-drop}
+use Rattle.std.specs.Prelude.{ℕ, zero, suc, ◌-◌, ◌*◌, ◌≤◌, ◌<◌, ◌≡◌, refl, Bool, true, false, take, drop}
+use Rattle.std.proofs.Common.{sym, ◌∙◌, arith}
 use Rattle.std.proofs.Math.Path.{ap}
 use Rattle.std.proofs.Math.Bool.{cond}
 use mathlib.Core.List.{List, [], ◌∷◌, ◌++◌, append-nil}
@@ -40,46 +40,48 @@ blocks_cons word words = go (is_whole r.out) (length r.items) (whole_some word w
     go false n h = refl
 
 -- no word is left
-pub blocks_none : (bytes : List ℕ) (i : ℕ) → length bytes < i + 4 → lines_from 0 (words_of_bytes (drop i bytes)) ≡ []
+pub blocks_none : (bytes : List ℕ) → length bytes < 4 → lines_from 0 (words_of_bytes bytes) ≡ []
 unfolding lines_from
-blocks_none bytes i h = ap (lines_from 0) (words_none (drop i bytes) (omega (arith, length-drop i bytes)))
+blocks_none bytes h = ap (lines_from 0) (words_none bytes h)
 
--- the block at i is listed
-module _ (bytes : List ℕ) (i : ℕ) (h : i + 4 ≤ length bytes) where
+-- the first block of the bytes is listed
+module _ (bytes : List ℕ) (h : 4 ≤ length bytes) where
   here : Reading
-  here = read_from start_of (words_of_bytes (drop i bytes))
+  here = read_from start_of (words_of_bytes bytes)
 
-  blocks_at : lines_from 0 (words_of_bytes (drop i bytes)) ≡ block_lines here ++ cond (is_whole here.out) (lines_from 0 (words_of_bytes (drop (i + 4 * length here.items) bytes))) []
+  blocks_at : lines_from 0 (words_of_bytes bytes) ≡ block_lines here ++ cond (is_whole here.out) (lines_from 0 (words_of_bytes (drop (4 * length here.items) bytes))) []
   unfolding here
-  blocks_at = first ∙ ap (λ (l : List ℕ). block_lines here ++ cond (is_whole here.out) (lines_from 0 l) []) (sym (words_drop (length here.items) (drop i bytes)) ∙ ap words_of_bytes (drop-drop (4 * length here.items) i bytes))
+  blocks_at = first ∙ ap (λ (l : List ℕ). block_lines here ++ cond (is_whole here.out) (lines_from 0 l) []) (sym (words_drop (length here.items) bytes))
     where
-      first : lines_from 0 (words_of_bytes (drop i bytes)) ≡ block_lines here ++ cond (is_whole here.out) (lines_from 0 (drop (length here.items) (words_of_bytes (drop i bytes)))) []
-      first = rw (words_some (drop i bytes) (omega (arith, length-drop i bytes))) (blocks_cons _ _)
+      first : lines_from 0 (words_of_bytes bytes) ≡ block_lines here ++ cond (is_whole here.out) (lines_from 0 (drop (length here.items) (words_of_bytes bytes))) []
+      first = rw (words_some bytes h) (blocks_cons _ _)
 
   -- it has a word where it is whole, and lies in the bytes
   some : is_whole here.out ≡ true → 0 < length here.items
   unfolding here
-  some = rw (words_some (drop i bytes) (omega (arith, length-drop i bytes))) (whole_some _ _)
+  some = rw (words_some bytes h) (whole_some _ _)
 
-  module _ {text : List ℕ} {k : ℕ} {b : Block} {text' : List ℕ} (says : ReadingSays text k (read_from start_of (words_of_bytes (take (length bytes - i) (drop i bytes)))) b text') where
-    told : ReadingSays text k here b text'
+  module _ {text : List ℕ} {k : ℕ} {b : Block} {text' : List ℕ} (told : ReadingSays text k (read_from start_of (words_of_bytes bytes)) b text') where
+    pub block_within : b.bytes ≤ length bytes
+    block_within = omega (arith, told.taken, items_le start_of (words_of_bytes bytes), words_le bytes)
+
+    abbrev behind : List ℕ
+    behind = take (length bytes - b.bytes) (drop b.bytes bytes)
+
+    pub block_shorter : b.whole ≡ true → length behind < length bytes
     unfolding here
-    told = rw (tail_is bytes i) at says
+    block_shorter e = omega (arith, told.taken, some (sym told.ended ∙ e), block_within, ap length (tail_is bytes b.bytes), length-drop b.bytes bytes)
 
-    pub block_within : i + b.bytes ≤ length bytes
+    pub block_next : b.whole ≡ true → put (text, k) (text_of (lines_from 0 (words_of_bytes bytes))) ≡ put (text', b.at) (text_of (lines_from 0 (words_of_bytes behind)))
     unfolding here
-    block_within = omega (arith, told.taken, items_le start_of (words_of_bytes (drop i bytes)), words_le (drop i bytes), length-drop i bytes)
-
-    pub block_some : b.whole ≡ true → 4 ≤ b.bytes
-    block_some e = omega (arith, told.taken, some (sym told.ended ∙ e))
-
-    pub block_next : b.whole ≡ true → put (text, k) (text_of (lines_from 0 (words_of_bytes (drop i bytes)))) ≡ put (text', b.at) (text_of (lines_from 0 (words_of_bytes (drop (i + b.bytes) bytes))))
     block_next e =
-        let rest = lines_from 0 (words_of_bytes (drop (i + b.bytes) bytes)) in
+        let rest = lines_from 0 (words_of_bytes (drop b.bytes bytes)) in
         ap (λ (ls : List Line). put (text, k) (text_of ls)) (blocks_at ∙ rw (sym told.ended ∙ e, ← told.taken))
         ∙ ap (put (text, k)) (text_append (block_lines here) rest)
         ∙ put_append (text, k) (text_of (block_lines here)) (text_of rest)
         ∙ ap (λ (q : Page). put q (text_of rest)) (sym told.page)
+        ∙ ap (λ (l : List ℕ). put (text', b.at) (text_of (lines_from 0 (words_of_bytes l)))) (sym (tail_is bytes b.bytes))
 
-    pub block_last : b.whole ≡ false → ◌≡◌ {A = Page} (text', b.at) (put (text, k) (text_of (lines_from 0 (words_of_bytes (drop i bytes)))))
+    pub block_last : b.whole ≡ false → ◌≡◌ {A = Page} (text', b.at) (put (text, k) (text_of (lines_from 0 (words_of_bytes bytes))))
+    unfolding here
     block_last e = told.page ∙ ap (λ (ls : List Line). put (text, k) (text_of ls)) (sym (blocks_at ∙ rw (sym told.ended ∙ e) (append-nil (block_lines here))))

@@ -1,5 +1,8 @@
 -- How long a text can be: at most 23 bytes a word, and one refusal's line. Assumes nothing.
-use Rattle.std.specs.Prelude.{ℕ, zero, suc, ◌+◌, ◌-◌, ◌*◌, ◌/◌, ◌^◌, ◌≤◌, ◌<◌, ◌≡◌, refl, Bool, true, false, cond, not, ◌||◌, List, [], ◌∷◌, ◌++◌, map, T, leb, eqb, ltb, length}
+use Rattle.std.specs.Prelude.{ℕ, zero, suc, ◌+◌, ◌-◌, ◌*◌, ◌/◌, ◌^◌, ◌≤◌, ◌<◌, ◌≡◌, refl, Bool, true, false, cond, not, ◌||◌, List, [], ◌∷◌, ◌++◌, map, T, IsOk, leb, eqb, ltb, length}
+use Rattle.std.specs.declared.option.Option.{Option}
+use Rattle.std.specs.declared.option.Option.TheVariants.{Some, None}
+use Rattle.std.specs.declared.result.Result.TheVariants.{Ok, Err}
 use Rattle.std.proofs.Common.{sym, ap, ◌∙◌, arith, lt_of_lt_of_le, ltb-false, le-leb, ne_eqb, leb→le, lit<, lit≤}
 use Rattle.ground.specs.Tests.{first_of}
 use Rattle.fields.specs.Word.{field_at}
@@ -27,15 +30,12 @@ use Rattle.fields.specs.Bytes.{words_of_bytes}
 use Rattle.fields.proofs.BytesLaws.{words_le}
 use Rattle.written.specs.Line.{Cell, Number, cell_of, Line, line_of}
 use Rattle.written.proofs.LengthLaws.{Below, most, size, size_none, size_both, size_one}
-use Rattle.lines.specs.declared.Second.{Second}
-use Rattle.lines.specs.declared.Second.TheVariants as N
-use Rattle.listing.specs.declared.Listed.{Listed}
-use Rattle.listing.specs.declared.Listed.TheVariants as L
+use Rattle.listing.specs.declared.NoRoom.{NoRoom}
 use Rattle.lines.specs.Lines.{block_name, setup_name, event_name, clock_name, clock27_name, window_name, pulse_name, pair_name, integral_name, time_name, ped_name, end_name, fill_name, empty_name, refused_name, scalers_name, refused_line, fill_lines, clock_line, scalers_line}
 use Rattle.entries.specs.Entries.{high_in, second_of, scalers_in, record_lines, filler_in}
 use Rattle.blocklines.specs.BlockLines.{item_lines, fillers_in, is_whole, out_lines, block_lines}
 use Rattle.listing.specs.Listing.{lines_from, cut_wrong, length_wrong, lines_unless, listing_of, long_listing_of}
-use Rattle.listing.specs.Says.{listed_number, counted, ListSays}
+use Rattle.listing.specs.Says.{Listed, listed_number, counted, ListSays}
 use Rattle.blocklines.specs.BlockLaws.{whole_some}
 
 -- ---- one record
@@ -45,9 +45,9 @@ field_digits : (word place width d : ℕ) → T (leb (2 ^ width) (10 ^ d)) → f
 field_digits word place width d t = lt_of_lt_of_le (field_lt word place width) (leb→le (2 ^ width) (10 ^ d) t)
 
 -- a second time word has 24 bits
-abbrev HighSmall : Second → Type 0
-HighSmall N.Nothing = Unit
-HighSmall (N.High high) = high < 2 ^ 24
+abbrev HighSmall : Option ℕ → Type 0
+HighSmall None = Unit
+HighSmall (Some high) = high < 2 ^ 24
 
 -- a scaler word has 32 bits, and so ten digits
 abbrev tens : List ℕ → List ℕ
@@ -81,9 +81,9 @@ cell_below false n d cells ds h r = (h, r)
 pair_below : (a b : Bool) (m n : ℕ) → m < 10 ^ 4 → n < 10 ^ 4 → Below (cell_of a m ∷ cell_of b n ∷ []) (3 ∷ 3 ∷ [])
 pair_below a b m n h k = cell_below a m 3 (cell_of b n ∷ []) (3 ∷ []) h (cell_below b n 3 [] [] k tt)
 
-clock_small : (n : ℕ) (r : TriggerTime) (second : Second) → r.middle < 10 → r.low < 2 ^ 24 → HighSmall second → size (clock_line r second ∷ []) + 23 * 0 + 11 * 0 ≤ 23 + 11 * n
-clock_small n r N.Nothing h k l = one n clock27_name _ (8 ∷ []) (omega arith, tt) (lit≤ tt)
-clock_small n r (N.High high) h k l = one n clock_name _ (14 ∷ []) (omega arith, tt) (lit≤ tt)
+clock_small : (n : ℕ) (r : TriggerTime) (second : Option ℕ) → r.middle < 10 → r.low < 2 ^ 24 → HighSmall second → size (clock_line r second ∷ []) + 23 * 0 + 11 * 0 ≤ 23 + 11 * n
+clock_small n r None h k l = one n clock27_name _ (8 ∷ []) (omega arith, tt) (lit≤ tt)
+clock_small n r (Some high) h k l = one n clock_name _ (14 ∷ []) (omega arith, tt) (lit≤ tt)
 
 small : (f : Form) (word : ℕ) → Small (item_from f word)
 unfolding block_header_of parameters_of trailer_of event_header_of trigger_time_of trigger_time_high_of scalers_of scaler_of empty_of filler_of window_of pulse_raw_of pair_of integral_of time_of pedestal_of
@@ -242,8 +242,12 @@ unfolding long_listing_of
 long_counted bytes h = omega (arith, unless_le (cut_wrong (length bytes)) bytes (omega arith))
 
 -- a buffer of so many bytes has room for every text
-pub always_room : (bytes : List ℕ) {text : List ℕ} {r : Listed} {text' : List ℕ} {n : ℕ} → 376854 ≤ length text → r ≡ L.NoRoom n → ListSays (listing_of bytes) text r text' → ⊥
+pub always_room : (bytes : List ℕ) {text : List ℕ} {r : Listed} {text' : List ℕ} {n : NoRoom} → 376854 ≤ length text → r ≡ Err n → ListSays (listing_of bytes) text r text' → ⊥
 always_room bytes {text} h e s =
     let f : leb (length (listing_of bytes)) (length text) ≡ true = le-leb (length (listing_of bytes)) (length text) (omega (arith, listing_le bytes)) in
     let a : ◌≡◌ {A = ℕ} 9 0 = sym (ap listed_number e) ∙ s.number ∙ rw f in
     omega arith
+
+pub always_text : (bytes : List ℕ) {text : List ℕ} {r : Listed} {text' : List ℕ} → 376854 ≤ length text → ListSays (listing_of bytes) text r text' → IsOk r
+always_text bytes {r = Ok n} h s = refl
+always_text bytes {r = Err n} h s = absurd (always_room bytes h refl s)

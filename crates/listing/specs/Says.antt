@@ -1,18 +1,23 @@
 -- What the lister's functions promise of their answers and of the lent buffer. Assumes nothing.
 use Rattle.std.specs.Prelude.{ℕ, min, ◌≡◌, Bool, cond, List, ◌++◌, leb, length, drop}
+use Rattle.std.specs.declared.result.Result.{Result}
+use Rattle.std.specs.declared.result.Result.TheVariants.{Ok, Err}
 use Rattle.written.specs.Page.{farthest}
-use Rattle.listing.specs.declared.Listed.{Listed}
-use Rattle.listing.specs.declared.Listed.TheVariants as L
+use Rattle.listing.specs.declared.NoRoom.{NoRoom}
+
+-- the text's length, or the room that it needs
+abbrev pub Listed : Type 0
+Listed = Result ℕ NoRoom
 
 -- the paper's number of an answer: 9, a "buffer too short for all that call writes", 0 for a text
 abbrev pub listed_number : Listed → ℕ
-listed_number (L.Text n) = 0
-listed_number (L.NoRoom n) = 9
+listed_number (Ok n) = 0
+listed_number (Err e) = 9
 
 -- the length of the text, and the room that it needs
 abbrev pub listed_value : Listed → ℕ
-listed_value (L.Text n) = n
-listed_value (L.NoRoom n) = n
+listed_value (Ok n) = n
+listed_value (Err e) = e.needed
 
 abbrev pub text_has_room : List ℕ → List ℕ → Bool
 text_has_room all text = leb (length all) (length text)

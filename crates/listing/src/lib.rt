@@ -16,58 +16,59 @@ pub const LONGEST: usize = 65536;
 // The most bytes of the text of a word; a refusal behind them has at most one fewer.
 const WORD_MOST: usize = 23;
 
-// The text's length; or, where the lent buffer is too short for it, the length that it needs.
+// The lent buffer is too short for a text of so many bytes.
 #[derive(Clone, Copy)]
-pub enum Listed {
-    Text(usize),
-    NoRoom(usize),
+pub struct NoRoom {
+    pub needed: usize,
 }
 
 // The lines of all blocks of the bytes, up to the first refusal.
 fn list_blocks(bytes: &[u8], text: &mut [u8]) -> usize
     ensures { (text.new, result) ≡ put (text.old, 0) (text_of (lines_from 0 (words_of_bytes bytes.now))) }
 {
-    let mut next: usize = 0;
+    let mut rest = bytes;
     let mut at: usize = 0;
-    while 4 <= bytes.len() - next {
-        let block = blocklines::list_block(&bytes[next..], text, at);
+    // No step of a `for`: each is as long as the block.
+    while 4 <= rest.len() {
+        let block = blocklines::list_block(rest, text, at);
         at = block.at;
-        if block.whole {
-            next += block.bytes;
-        } else {
+        if !block.whole {
             return at;
         }
+        rest = &rest[block.bytes..];
     }
     at
 }
 
 // The whole text of bytes, whose length may be wrong.
+#[tactic(auto, unfolding(crate::specs::Listing::lines_unless))]
 fn put_listing(wrong: bool, bytes: &[u8], text: &mut [u8]) -> usize
     ensures { (text.new, result) ≡ put (text.old, 0) (text_of (lines_unless wrong bytes.now)) }
 {
     if wrong {
-        return lines::put_refused(text, 0, refusals::number(Refusal::Bytes), 0);
+        return lines::put_refused(text, 0, Refusal::Bytes.number(), 0);
     }
     list_blocks(bytes, text)
 }
 
-// The text where it fits; where it does not, the buffer stays as it was. Unless every text has room, it is counted first,
-// on no page at all.
-fn list_unless(wrong: bool, bytes: &[u8], text: &mut [u8]) -> Listed
+// The text and its length where it fits; where it does not, the buffer stays as it was. Unless every text has room, it is
+// counted first, on no page at all.
+fn list_unless(wrong: bool, bytes: &[u8], text: &mut [u8]) -> Result<usize, NoRoom>
     ensures { LongSays (text_of (lines_unless wrong bytes.now)) text.old result text.new }
 {
     if bytes.len() / 4 < (text.len() + 1) / WORD_MOST {
-        return Listed::Text(put_listing(wrong, bytes, text));
+        return Ok(put_listing(wrong, bytes, text));
     }
-    let length = put_listing(wrong, bytes, &mut text[..0]);
-    if text.len() < length {
-        return Listed::NoRoom(length);
+    let needed = put_listing(wrong, bytes, &mut text[..0]);
+    if text.len() < needed {
+        return Err(NoRoom { needed });
     }
-    Listed::Text(put_listing(wrong, bytes, text))
+    Ok(put_listing(wrong, bytes, text))
 }
 
 // The text of an input of the lister.
-pub fn list(bytes: &[u8], text: &mut [u8]) -> Listed
+#[tactic(auto, using(crate::specs::RoomLaws::all_counted, crate::specs::MostLaws::listing_le), unfolding(crate::specs::Listing::listing_of))]
+pub fn list(bytes: &[u8], text: &mut [u8]) -> Result<usize, NoRoom>
     ensures { ListSays (listing_of bytes.now) text.old result text.new }
 {
     list_unless(
@@ -78,7 +79,8 @@ pub fn list(bytes: &[u8], text: &mut [u8]) -> Listed
 }
 
 // The text of any number of bytes.
-pub fn list_long(bytes: &[u8], text: &mut [u8]) -> Listed
+#[tactic(auto, unfolding(crate::specs::Listing::long_listing_of))]
+pub fn list_long(bytes: &[u8], text: &mut [u8]) -> Result<usize, NoRoom>
     ensures { LongSays (long_listing_of bytes.now) text.old result text.new }
 {
     list_unless(bytes.len() % 4 != 0, bytes, text)

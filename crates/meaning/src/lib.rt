@@ -4,6 +4,7 @@
 ghost use Rattle.std.specs.Prelude.{◌≡◌, cond, [], ◌∷◌, eqb};
 ghost use Rattle.meaning.specs.Meaning.{scaler_or, more_in, edges, inner, opening, allowed_in, other_in, meaning_in, meaning_at, unfinished};
 
+use fields::record::Defining;
 use framing::block_header::BlockHeader;
 use framing::empty::ModuleEmpty;
 use framing::event_header::EventHeader;
@@ -27,25 +28,14 @@ pub enum Meaning {
     End,
 }
 
-// A continuation in a type 6.
-fn raw_more(n: u32) -> Meaning
-    ensures { result ≡ cond (eqb n 0) Meaning.Unallowed (Meaning.Form Form.Pair) }
+// Where n of a form may still come: in a type 6 pairs, among an event's scalers whatever the word's bits.
+fn while_some(n: u32, form: Form) -> Meaning
+    ensures { result ≡ cond (eqb n 0) Meaning.Unallowed (Meaning.Form form) }
 {
     if n == 0 {
         Meaning::Unallowed
     } else {
-        Meaning::Form(Form::Pair)
-    }
-}
-
-// Among an event's scalers every word is one of them, while some are to come.
-fn scaler_or(n: u32) -> Meaning
-    ensures { result ≡ scaler_or n }
-{
-    if n == 0 {
-        Meaning::Unallowed
-    } else {
-        Meaning::Form(Form::Scaler)
+        Meaning::Form(form)
     }
 }
 
@@ -53,18 +43,14 @@ fn scaler_or(n: u32) -> Meaning
 fn more_meaning(scan: Scan) -> Meaning
     ensures { result ≡ more_in scan }
 {
-    let p = scan.stage;
-    match p {
-        Stage::Start => Meaning::Unallowed,
+    match scan.stage {
         Stage::Head => Meaning::Form(Form::Parameters),
-        Stage::Front => Meaning::Unallowed,
-        Stage::Opened => Meaning::Unallowed,
         Stage::Timed(_) => Meaning::Form(Form::ClockHigh),
-        Stage::Items => Meaning::Unallowed,
         Stage::Window(_, _) => Meaning::Form(Form::Pair),
-        Stage::Raw(n, _) => raw_more(n),
+        Stage::Raw(n, _) => while_some(n, Form::Pair),
         Stage::Tail(_) => Meaning::End,
-        Stage::Scalers(n) => scaler_or(n),
+        Stage::Scalers(n) => while_some(n, Form::Scaler),
+        Stage::Start | Stage::Front | Stage::Opened | Stage::Items => Meaning::Unallowed,
     }
 }
 
@@ -153,14 +139,11 @@ fn scalers_meaning(n: u32, tag: u32) -> Meaning
 fn type_meaning(scan: Scan, tag: u32) -> Meaning
     ensures { result ≡ meaning_in (other_in scan) (allowed_in scan) tag }
 {
-    let p = scan.stage;
-    match p {
+    match scan.stage {
         Stage::Start => start_meaning(tag),
-        Stage::Head => edge_meaning(tag),
-        Stage::Front => edge_meaning(tag),
+        Stage::Head | Stage::Front => edge_meaning(tag),
         Stage::Opened => opened_meaning(tag),
-        Stage::Timed(_) => inner_meaning(tag),
-        Stage::Items => inner_meaning(tag),
+        Stage::Timed(_) | Stage::Items => inner_meaning(tag),
         Stage::Window(_, _) => Meaning::Unallowed,
         Stage::Raw(_, some) => raw_meaning(some, tag),
         Stage::Tail(n) => tail_meaning(n, tag),
@@ -168,6 +151,7 @@ fn type_meaning(scan: Scan, tag: u32) -> Meaning
     }
 }
 
+#[tactic(auto, unfolding(crate::specs::Meaning::meaning_at, fields::specs::Tag::is_continuation))]
 pub fn meaning_at(scan: Scan, word: u32) -> Meaning
     ensures { result ≡ meaning_at scan word }
 {
@@ -182,9 +166,5 @@ pub fn meaning_at(scan: Scan, word: u32) -> Meaning
 pub fn is_unfinished(scan: Scan) -> bool
     ensures { result ≡ unfinished scan }
 {
-    let p = scan.stage;
-    if let Stage::Tail(_) = p {
-        return false;
-    }
-    true
+    !matches!(scan.stage, Stage::Tail(_))
 }

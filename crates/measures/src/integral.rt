@@ -1,9 +1,9 @@
 // Type 7, a pulse's integral.
 // "7 integral: 26-23 channel, 22-21 pulse, 20-19 quality, 18-0"
-ghost use Rattle.std.specs.Prelude.{◌≡◌};
-ghost use Rattle.fields.specs.Word.{fit, pack};
-ghost use Rattle.fields.specs.Tag.{is_defining};
 ghost use Rattle.measures.specs.Words.{integral, integral_of};
+ghost use Rattle.measures.specs.WordsLaws.{integral_there};
+
+use fields::record::{Defining, Record};
 
 #[derive(Clone, Copy)]
 pub struct PulseIntegral {
@@ -14,8 +14,6 @@ pub struct PulseIntegral {
 }
 
 impl PulseIntegral {
-    pub const TAG: u32 = 7;
-
     pub const CHANNEL_MAX: u32 = 15;
 
     pub const PULSE_MAX: u32 = 3;
@@ -23,19 +21,23 @@ impl PulseIntegral {
     pub const QUALITY_MAX: u32 = 3;
 
     pub const SUM_MAX: u32 = 524287;
+}
 
-    // Whether each field is at most its largest value; then the word keeps them all.
-    pub fn fits(self) -> bool
-        ensures { result ≡ fit (integral self) }
-    {
+impl Record for PulseIntegral {
+    ghost row = { integral };
+
+    ghost held = { integral_of };
+
+    ghost there = { integral_there };
+
+    fn fits(self) -> bool {
         (self.channel <= Self::CHANNEL_MAX)
-            & ((self.pulse <= Self::PULSE_MAX)
-                & ((self.quality <= Self::QUALITY_MAX) & (self.sum <= Self::SUM_MAX)))
+            & (self.pulse <= Self::PULSE_MAX)
+            & (self.quality <= Self::QUALITY_MAX)
+            & (self.sum <= Self::SUM_MAX)
     }
 
-    pub fn build(self) -> u32
-        ensures { result ≡ pack (integral self) }
-    {
+    fn build(self) -> u32 {
         let sum = fields::put(0, 0, self.sum);
         let quality = fields::put(sum, 19, self.quality);
         let pulse = fields::put(quality, 21, self.pulse);
@@ -43,21 +45,18 @@ impl PulseIntegral {
         fields::defining(channel, Self::TAG)
     }
 
-    pub fn take_apart(word: u32) -> PulseIntegral
-        ensures { result ≡ integral_of word }
-    {
-        PulseIntegral {
+    fn take_apart(word: u32) -> Self {
+        Self {
             channel: fields::take(word, 23, 4),
             pulse: fields::take(word, 21, 2),
             quality: fields::take(word, 19, 2),
             sum: fields::take(word, 0, 19),
         }
     }
+}
 
-    // Whether the word is of this type.
-    pub fn is(word: u32) -> bool
-        ensures { result ≡ is_defining 7 word }
-    {
-        fields::is_defining(word, Self::TAG)
-    }
+impl Defining for PulseIntegral {
+    ghost TAG = { 7 };
+
+    const TAG: u32 = 7;
 }

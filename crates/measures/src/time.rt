@@ -1,9 +1,10 @@
 // Type 8, a pulse's time.
 // "8 time: 26-23, 22-21, 20-19 quality, 18-15 zero, 14-6 coarse, 5-0 fine"
 ghost use Rattle.std.specs.Prelude.{◌≡◌};
-ghost use Rattle.fields.specs.Word.{fit, pack};
-ghost use Rattle.fields.specs.Tag.{is_defining};
 ghost use Rattle.measures.specs.Words.{time, time_of, time_fixed};
+ghost use Rattle.measures.specs.WordsLaws.{time_there};
+
+use fields::record::{Defining, Record};
 
 #[derive(Clone, Copy)]
 pub struct PulseTime {
@@ -15,8 +16,6 @@ pub struct PulseTime {
 }
 
 impl PulseTime {
-    pub const TAG: u32 = 8;
-
     pub const CHANNEL_MAX: u32 = 15;
 
     pub const PULSE_MAX: u32 = 3;
@@ -27,19 +26,30 @@ impl PulseTime {
 
     pub const FINE_MAX: u32 = 63;
 
-    // Whether each field is at most its largest value; then the word keeps them all.
-    pub fn fits(self) -> bool
-        ensures { result ≡ fit (time self) }
+    // Whether the bits that are shown zero are zero.
+    pub fn fixed(word: u32) -> bool
+        ensures { result ≡ time_fixed word }
     {
+        fields::take(word, 15, 4) == 0
+    }
+}
+
+impl Record for PulseTime {
+    ghost row = { time };
+
+    ghost held = { time_of };
+
+    ghost there = { time_there };
+
+    fn fits(self) -> bool {
         (self.channel <= Self::CHANNEL_MAX)
-            & ((self.pulse <= Self::PULSE_MAX)
-                & ((self.quality <= Self::QUALITY_MAX)
-                    & ((self.coarse <= Self::COARSE_MAX) & (self.fine <= Self::FINE_MAX))))
+            & (self.pulse <= Self::PULSE_MAX)
+            & (self.quality <= Self::QUALITY_MAX)
+            & (self.coarse <= Self::COARSE_MAX)
+            & (self.fine <= Self::FINE_MAX)
     }
 
-    pub fn build(self) -> u32
-        ensures { result ≡ pack (time self) }
-    {
+    fn build(self) -> u32 {
         let fine = fields::put(0, 0, self.fine);
         let coarse = fields::put(fine, 6, self.coarse);
         let zero18 = fields::put(coarse, 15, 0);
@@ -49,10 +59,8 @@ impl PulseTime {
         fields::defining(channel, Self::TAG)
     }
 
-    pub fn take_apart(word: u32) -> PulseTime
-        ensures { result ≡ time_of word }
-    {
-        PulseTime {
+    fn take_apart(word: u32) -> Self {
+        Self {
             channel: fields::take(word, 23, 4),
             pulse: fields::take(word, 21, 2),
             quality: fields::take(word, 19, 2),
@@ -60,18 +68,10 @@ impl PulseTime {
             fine: fields::take(word, 0, 6),
         }
     }
+}
 
-    // Whether the word is of this type.
-    pub fn is(word: u32) -> bool
-        ensures { result ≡ is_defining 8 word }
-    {
-        fields::is_defining(word, Self::TAG)
-    }
+impl Defining for PulseTime {
+    ghost TAG = { 8 };
 
-    // Whether the bits that are shown zero are zero.
-    pub fn fixed(word: u32) -> bool
-        ensures { result ≡ time_fixed word }
-    {
-        fields::take(word, 15, 4) == 0
-    }
+    const TAG: u32 = 8;
 }

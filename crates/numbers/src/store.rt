@@ -61,7 +61,7 @@ pub fn put_head(numbers: &mut [u64], state: State)
     ensures { numbers.new ≡ head_stored numbers.old state }
 {
     let head = head_of(state);
-    copies::put64(numbers, 0, &head);
+    copies::put(numbers, 0, &head);
 }
 
 // Counts as numbers of 64 bits: sixteen of them,
@@ -109,9 +109,9 @@ pub fn put_scalers(numbers: &mut [u64], scalers: Scalers)
         marks,
     ];
     let latched = wide_18(kept);
-    copies::put64(numbers, places::COUNTS, &counts);
-    copies::put64(numbers, places::TIMER, &between);
-    copies::put64(numbers, places::LATCHED, &latched);
+    copies::put(numbers, places::COUNTS, &counts);
+    copies::put(numbers, places::TIMER, &between);
+    copies::put(numbers, places::LATCHED, &latched);
 }
 
 // Stores a state whole: its head, what is counted, then the settings as they came.
@@ -125,7 +125,7 @@ pub fn put_state(numbers: &mut [u64], state: State, settings: &[u64])
         return;
     }
     let scalers = state.scalers;
-    copies::put64(numbers, FRONT, settings);
+    copies::put(numbers, FRONT, settings);
     put_scalers(numbers, scalers);
     put_head(numbers, state);
 }

@@ -8,11 +8,11 @@ use Rattle.ground.specs.Order.{Perm, perm_nil, perm_cons, perm_swap, perm_trans,
 use Rattle.ground.specs.OrderLaws.{pairwise_perm, steps_perm}
 use Rattle.ground.specs.Splice.{splice}
 use Rattle.ground.specs.SpliceLaws.{length_splice, splice_comm}
-use Rattle.refusals.specs.Refusal.{number_of, if_accepted}
+use Rattle.refusals.specs.Refusal.{told, if_accepted}
 use Rattle.state.specs.declared.Phase.{Phase}
 use Rattle.state.specs.declared.Phase.TheVariants as P
 use Rattle.state.specs.declared.State.{State}
-use Rattle.writer.specs.declared.Answer.{Answer}
+use Rattle.writer.specs.Answer.{Answer}
 use Rattle.scalers.specs.declared.Scalers.{Scalers}
 use Rattle.state.specs.State.{phase_ok, common_ok, state_ok, is_event, with_mark, with_scalers}
 use Rattle.state.specs.StateLaws.{mark_kept}
@@ -46,7 +46,7 @@ answered b p = (p, answer_of b p)
 
 -- the contract of a post leaves exactly that
 post_after : (b : Bench) (p : Post) (r : Answer) (store' : List ℕ) → PostSays b.state b.store p.channel p.window r store'
-    → (number_of r.refusal ≡ answer_of b p) × (record { state = r.state; store = store' } ≡ after b p)
+    → (told r.refusal ≡ answer_of b p) × (record { state = r.state; store = store' } ≡ after b p)
 unfolding answer_of after
 post_after b p r store' h = (h.refusal, ap₂ (λ (s : State) (l : List ℕ). record { state = s; store = l }) h.state h.rows)
 

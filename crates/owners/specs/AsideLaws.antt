@@ -2,12 +2,12 @@
 use Rattle.std.specs.Prelude.{ℕ, zero, suc, ◌≡◌, refl, Bool, true, false, cond, List, [], ◌∷◌, map, eqb}
 use Rattle.std.proofs.Common.{sym, ap, ap₂, ◌∙◌, arith}
 use Rattle.ground.specs.Order.{steps}
-use Rattle.refusals.specs.Refusal.{number_of, if_accepted}
+use Rattle.refusals.specs.Refusal.{told, if_accepted}
 use Rattle.scalers.specs.declared.Scalers.{Scalers}
 use Rattle.scalers.specs.Scalers.{frames_of, count_frames, latched_now, reset_now}
 use Rattle.state.specs.declared.State.{State}
 use Rattle.state.specs.State.{state_ok, with_scalers}
-use Rattle.writer.specs.declared.Answer.{Answer}
+use Rattle.writer.specs.Answer.{Answer}
 use Rattle.writer.specs.CallsLaws.{done, refused}
 use Rattle.counting.specs.Counting.{count_table, count_number, latch_table, latch_number, reset_table, reset_number}
 use Rattle.counting.specs.CountingLaws.{count_accepted, latch_accepted, reset_accepted, count_kept, latch_kept, reset_kept}
@@ -51,14 +51,14 @@ only_scalers n s c = go (eqb n 0)
     go true = refl
     go false = refl
 
-aside_state : (k : Aside) (s : State) (r : Answer) → AsideSays k s r → (number_of r.refusal ≡ aside_number s k) × (r.state ≡ with_scalers s (scalers_after s k))
+aside_state : (k : Aside) (s : State) (r : Answer) → AsideSays k s r → (told r.refusal ≡ aside_number s k) × (r.state ≡ with_scalers s (scalers_after s k))
 unfolding aside_number scalers_after counted
 aside_state (frames samples) s r h = (h.refusal, h.state ∙ only_scalers (count_number s samples) s (count_frames s.settings.thresholds s.scalers (frames_of samples)))
 aside_state latch s r h = (h.refusal, h.state ∙ only_scalers (latch_number s) s (latched_now s.scalers))
 aside_state reset s r h = (h.refusal, h.state ∙ only_scalers (reset_number s) s (reset_now s.scalers))
 
 pub aside_after : (b : Bench) (k : Aside) (r : Answer) → AsideSays k b.state r
-    → (number_of r.refusal ≡ aside_number b.state k) × (record { state = r.state; store = b.store } ≡ beside b k)
+    → (told r.refusal ≡ aside_number b.state k) × (record { state = r.state; store = b.store } ≡ beside b k)
 unfolding beside
 aside_after b k r h =
     let a = aside_state k b.state r h in

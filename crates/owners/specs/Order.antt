@@ -2,9 +2,9 @@
 -- Frames, latches and resets may come between any two calls (document 02). Assumes nothing.
 use Rattle.std.specs.Prelude.{ℕ, ◌≢◌, List, [], ◌∷◌}
 use Rattle.ground.specs.Order.{Pairwise}
-use Rattle.refusals.specs.Refusal.{number_of}
+use Rattle.refusals.specs.Refusal.{told}
 use Rattle.state.specs.declared.State.{State}
-use Rattle.writer.specs.declared.Answer.{Answer}
+use Rattle.writer.specs.Answer.{Answer}
 use Rattle.writer.specs.Calls.{PostSays}
 use Rattle.counting.specs.Counting.{CountSays, LatchSays, ResetSays}
 
@@ -35,10 +35,10 @@ pub data PostRun : Bench → List Post → List (Post × ℕ) → List Aside →
   none : {b : Bench} → PostRun b [] [] [] [] b
   one : {b e : Bench} (p : Post) {l : List Post} {ns : List (Post × ℕ)} {ks : List Aside} {is : List ℕ} (r : Answer) (store' : List ℕ)
       → PostSays b.state b.store p.channel p.window r store'
-      → PostRun (record { state = r.state; store = store' }) l ns ks is e → PostRun b (p ∷ l) ((p, number_of r.refusal) ∷ ns) ks is e
+      → PostRun (record { state = r.state; store = store' }) l ns ks is e → PostRun b (p ∷ l) ((p, told r.refusal) ∷ ns) ks is e
   aside : {b e : Bench} (k : Aside) {l : List Post} {ns : List (Post × ℕ)} {ks : List Aside} {is : List ℕ} (r : Answer)
       → AsideSays k b.state r
-      → PostRun (record { state = r.state; store = b.store }) l ns ks is e → PostRun b l ns (k ∷ ks) (number_of r.refusal ∷ is) e
+      → PostRun (record { state = r.state; store = b.store }) l ns ks is e → PostRun b l ns (k ∷ ks) (told r.refusal ∷ is) e
 
 -- no two posts are for one channel
 abbrev pub Differ : Post → Post → Type 0

@@ -7,9 +7,9 @@ use Rattle.fields.specs.Word.{read}
 use Rattle.fields.specs.Tag.{is_defining, is_continuation}
 use Rattle.settings.specs.declared.Settings.{Settings}
 use Rattle.modes.specs.Channel.{common_of}
-use Rattle.refusals.specs.Refusal.{number_of}
+use Rattle.refusals.specs.Refusal.{told as number_told}
 use Rattle.state.specs.declared.State.{State}
-use Rattle.writer.specs.declared.Answer.{Answer}
+use Rattle.writer.specs.Answer.{Answer}
 use Rattle.writer.specs.Calls.{OpenEventSays}
 use Rattle.closing.specs.Closing.{CloseSays}
 use Rattle.owners.specs.Order.{Bench, Post, Aside, PostRun, Apart}
@@ -23,7 +23,7 @@ pub record JustOpened (s : State) : Type 0 where
   pub time : ℕ
   pub answer : Answer
   pub says : OpenEventSays before number time answer
-  pub accepted : number_of answer.refusal ≡ 0
+  pub accepted : number_told answer.refusal ≡ 0
   pub sixteen : length before.posted ≡ 16
   pub counts : length before.scalers.counts ≡ 16
   pub eighteen : length before.scalers.latched ≡ 18
@@ -46,7 +46,7 @@ pub record EventRun : Type 0 where
   pub answer : Answer
   pub words' : List ℕ
   pub says : CloseSays end.state end.store words asked answer words'
-  pub accepted : number_of answer.refusal ≡ 0
+  pub accepted : number_told answer.refusal ≡ 0
 
 abbrev pub settings_in : EventRun → Settings
 settings_in e = e.start.state.settings

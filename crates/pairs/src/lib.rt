@@ -7,6 +7,7 @@ ghost use Rattle.limits.specs.Limits.{pairs_of};
 ghost use Rattle.items.specs.Items.{word_of, words_of};
 ghost use Rattle.pairs.specs.Pairs.{pair_items};
 
+use fields::record::Record;
 use items::Item;
 use raw::pair::SamplePair;
 

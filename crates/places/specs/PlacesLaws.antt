@@ -1,27 +1,25 @@
 -- Numbers that their fields hold, and the loops over them. Assumes nothing.
-use Rattle.std.specs.Prelude.{ℕ, zero, suc, ◌+◌, ◌%◌, ◌-◌, ◌≤◌, ◌<◌, ◌≡◌, refl, Bool, true, false, ◌&&◌, List, [], ◌∷◌, ◌++◌, leb, length, get_or, take, drop, replicate}
+use Rattle.std.specs.Prelude.{ℕ, zero, suc, ◌+◌, ◌%◌, ◌-◌, ◌≤◌, ◌<◌, ◌≡◌, refl, Bool, true, false, ◌&&◌, List, [], ◌∷◌, ◌++◌, leb, length, get_or, take, drop, replicate, fold}
+use Rattle.std.specs.List.{zip}
 use Rattle.std.proofs.Math.Path.{sym}
-use Rattle.std.proofs.Common.{ap, ap₂, ◌∙◌, arith, add-one, mod-eq_of_lt, leb-true, length-drop, length-take, length-append, take-append-drop, drop-cons, take_all, take-add, get_or-take, get_or-drop}
+use Rattle.std.proofs.Common.{ap, ap₂, ◌∙◌, arith, mod-eq_of_lt, leb-true, length-drop, length-take, length-append, take-append-drop, drop-cons, take_all, take-add, get_or-take, get_or-drop}
 use Rattle.std.proofs.Math.Bool.{and_assoc, and-true}
 use Rattle.std.proofs.lemmas.Bool.{false≢true}
-use Rattle.std.proofs.Math.ListN.{drop_of_length-le}
 use Rattle.ground.specs.Tests.{all_le}
 use Rattle.ground.specs.TestsLaws.{and_left, and_right}
 use Rattle.places.specs.Places.{mode_at, pl_at, slot_at, times_at, multiple_at, thresholds_at, most32, settings_limits, settings_count, block_at, events_at, event_at, closed_at, head_limits, head_count, timer_at, triggers_at, part_at, scaler_limits, front_limits, front_count, state_count, held_in, is_settings, is_state}
 
--- ---- held numbers, from place i on: what was asked and what is left are the whole
+-- ---- held numbers
 
-held_step : (m n : List ℕ) (i : ℕ) → i < length m → i < length n → held_in (drop i m) (drop i n) ≡ leb (get_or n i 0) (get_or m i 0) && held_in (drop (i + 1) m) (drop (i + 1) n)
+held_from : (good : Bool) (m n : List ℕ) → length n ≡ length m → fold (λ b p. b && leb p.0 p.1) good (zip n m) ≡ good && held_in m n
 unfolding held_in
-held_step m n i h k = rw (drop-cons n i 0 k, drop-cons m i 0 h, add-one i)
+held_from good [] [] e = sym (and-true good)
+held_from good [] (y ∷ n) e = absurd (omega arith)
+held_from good (x ∷ m) [] e = absurd (omega arith)
+held_from good (x ∷ m) (y ∷ n) e = held_from (good && leb y x) m n (omega arith) ∙ and_assoc good (leb y x) (held_in m n)
 
-module _ (m n : List ℕ) (good : Bool) (i : ℕ) (so_far : good && held_in (drop i m) (drop i n) ≡ held_in m n) where
-  pub held_turn : i < length m → i < length n → (good && leb (get_or n i 0) (get_or m i 0)) && held_in (drop (i + 1) m) (drop (i + 1) n) ≡ held_in m n
-  held_turn h k = and_assoc good _ _ ∙ rw (held_step m n i h k) at so_far
-
-  pub held_end : length m ≤ i → length n ≤ i → good ≡ held_in m n
-  unfolding held_in
-  held_end h k = sym (and-true good) ∙ rw (drop_of_length-le n k, drop_of_length-le m h) at so_far
+pub held_fold : (m n : List ℕ) → length n ≡ length m → fold (λ b p. b && leb p.0 p.1) true (zip n m) ≡ held_in m n
+held_fold m n e = held_from true m n e
 
 pub held_length : (m n : List ℕ) → held_in m n ≡ true → length n ≡ length m
 unfolding held_in
@@ -156,15 +154,14 @@ tail_part l k = take_all (length l - k) (drop k l) (rw (length-drop k l) (omega 
 -- ---- asking
 
 -- the fields and the thresholds of settings, as the code cuts them
-pub settings_asked : (n : List ℕ) {l : List ℕ} {f t : Bool} → 16 ≤ length n → l ≡ take thresholds_at settings_limits
-    → f ≡ held_in l (take (length n - 16) n)
+pub settings_asked : (n : List ℕ) {f t : Bool} → 16 ≤ length n → f ≡ held_in (take thresholds_at settings_limits) (take (length n - 16) n)
     → t ≡ all_le most32 (take (length n - (length n - 16)) (drop (length n - 16) n))
     → f && t ≡ is_settings n
 unfolding is_settings
-settings_asked n h e f g =
+settings_asked n h f g =
     let k : ℕ = length n - 16 in
     let long : length (drop k n) ≡ 16 = omega (arith, length-drop k n) in
-    ap₂ ◌&&◌ (f ∙ ap (λ (l : List ℕ). held_in l (take k n)) e) (g ∙ ap (all_le most32) (tail_part n k) ∙ sym (held_same most32 16 (drop k n) long))
+    ap₂ ◌&&◌ f (g ∙ ap (all_le most32) (tail_part n k) ∙ sym (held_same most32 16 (drop k n) long))
     ∙ sym (held_parts (take thresholds_at settings_limits) (replicate 16 most32) (take k n) (drop k n) long)
     ∙ ap (held_in settings_limits) (take-append-drop k n)
 
@@ -191,12 +188,12 @@ scalers_asked l h e f =
     ∙ ap (held_in scaler_limits) (take-append-drop 19 l)
 
 -- the three parts of a state's numbers, as the code cuts them
-pub state_asked : (n : List ℕ) {l : List ℕ} {h c s : Bool} → front_count ≤ length n → l ≡ head_limits → h ≡ held_in l (take head_count n) → c ≡ held_in scaler_limits (take 38 (drop head_count n))
+pub state_asked : (n : List ℕ) {h c s : Bool} → front_count ≤ length n → h ≡ held_in head_limits (take head_count n) → c ≡ held_in scaler_limits (take 38 (drop head_count n))
     → s ≡ is_settings (take (length n - front_count) (drop front_count n)) → h && (c && s) ≡ is_state n
 unfolding is_state
-state_asked n {l} {h} {c} {s} long e f g k =
+state_asked n {h} {c} {s} long f g k =
     let size : length (take 38 (drop head_count n)) ≡ 38 = omega (arith, long, length-take 38 (drop head_count n), length-drop head_count n) in
     let both : take head_count n ++ take 38 (drop head_count n) ≡ take front_count n = sym (take-add head_count 38 n) in
     let front : held_in front_limits (take front_count n) ≡ h && c =
-    ap (held_in front_limits) (sym both) ∙ held_parts head_limits scaler_limits (take head_count n) (take 38 (drop head_count n)) size ∙ ap₂ ◌&&◌ (sym (f ∙ ap (λ (x : List ℕ). held_in x (take head_count n)) e)) (sym g) in
+    ap (held_in front_limits) (sym both) ∙ held_parts head_limits scaler_limits (take head_count n) (take 38 (drop head_count n)) size ∙ ap₂ ◌&&◌ (sym f) (sym g) in
     sym (and_assoc h c s) ∙ ap₂ ◌&&◌ (sym front) (k ∙ ap is_settings (tail_part n front_count))

@@ -77,51 +77,34 @@ const MOST_32: u64 = 4294967295;
 
 const MOST_64: u64 = 18446744073709551615;
 
-// Of each settings field before the thresholds, in the order of their places.
-fn field_limits() -> [u64; THRESHOLDS]
-    ensures { result ≡ take thresholds_at settings_limits }
-{
-    [
-        MOST_32, MOST_64, MOST_32, MOST_64, MOST_64, MOST_64, MOST_32, 1, MOST_32, MOST_32,
-    ]
-}
+// The greatest of each settings field before the thresholds, in the order of their places.
+const FIELD_LIMITS: [u64; THRESHOLDS] = [
+    MOST_32, MOST_64, MOST_32, MOST_64, MOST_64, MOST_64, MOST_32, 1, MOST_32, MOST_32,
+];
 
-// Phase, block number, events to come, event number, time, posted marks, events closed, words written.
-fn head_limits() -> [u64; HEAD]
-    ensures { result ≡ head_limits }
-{
-    [
-        2, MOST_32, MOST_32, MOST_32, MOST_64, 65535, MOST_32, MOST_64,
-    ]
-}
+// Of phase, block number, events to come, event number, time, posted marks, events closed, words written.
+const HEAD_LIMITS: [u64; HEAD] = [
+    2, MOST_32, MOST_32, MOST_32, MOST_64, 65535, MOST_32, MOST_64,
+];
 
 // As many numbers as limits, and each at most its limit.
 fn held_in(limits: &[u64], numbers: &[u64]) -> bool
     ensures { result ≡ held_in limits.now numbers.now }
 {
-    if numbers.len() != limits.len() {
-        return false;
-    }
-    let mut good = true;
-    let mut i = 0;
-    while i < limits.len() {
-        good = good & (numbers[i] <= limits[i]);
-        i += 1;
-    }
-    good
+    numbers.len() == limits.len()
+        && numbers
+            .iter()
+            .zip(limits)
+            .fold(true, |good, (number, limit)| good & (*number <= *limit))
 }
 
 // Each is held by a 32-bit field.
 fn held_in_32(numbers: &[u64]) -> bool
     ensures { result ≡ all_le most32 numbers.now }
 {
-    let mut good = true;
-    let mut i = 0;
-    while i < numbers.len() {
-        good = good & (numbers[i] <= MOST_32);
-        i += 1;
-    }
-    good
+    numbers
+        .iter()
+        .fold(true, |good, number| good & (*number <= MOST_32))
 }
 
 // As many as the settings are, each held by its field. The thresholds are taken from the end: at a place that is no constant
@@ -134,8 +117,7 @@ pub fn is_settings(numbers: &[u64]) -> bool
     }
     let first = numbers.len() - CHANNELS;
     let thresholds = held_in_32(&numbers[first..]);
-    let limits = field_limits();
-    let fields = held_in(&limits, &numbers[..first]);
+    let fields = held_in(&FIELD_LIMITS, &numbers[..first]);
     fields & thresholds
 }
 
@@ -160,7 +142,6 @@ pub fn is_state(numbers: &[u64]) -> bool
     }
     let settings = is_settings(&numbers[FRONT..]);
     let scalers = held_scalers(&numbers[HEAD..FRONT]);
-    let limits = head_limits();
-    let head = held_in(&limits, &numbers[..HEAD]);
+    let head = held_in(&HEAD_LIMITS, &numbers[..HEAD]);
     head & (scalers & settings)
 }

@@ -4,6 +4,7 @@ ghost use Rattle.limits.specs.Limits.{most_samples};
 ghost use Rattle.items.specs.Items.{word_of};
 ghost use Rattle.pulse.specs.Pulse.{integral_item, time_item, pedestal_item};
 
+use fields::record::Record;
 use finder::Pulse;
 use measures::integral::PulseIntegral;
 use measures::pedestal::PulsePedestal;

@@ -10,6 +10,7 @@ ghost use Rattle.raw.specs.Words.{window_of, window_fixed, window_within, pair_f
 ghost use Rattle.items.specs.Items.{item_from, fixed_in};
 ghost use Rattle.questions.specs.Questions.{at_limit, time_wrong, flag_wrong, item_wrong, count_wrong, refusals};
 
+use fields::record::Record;
 use framing::block_header::BlockHeader;
 use framing::parameters::Parameters;
 use framing::scalers::ScalerHeader;

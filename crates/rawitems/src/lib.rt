@@ -6,6 +6,7 @@ ghost use Rattle.std.specs.Prelude.{[], ◌≡◌};
 ghost use Rattle.rawitems.specs.Pairing.{pairing_of};
 ghost use Rattle.rawitems.specs.Pairs.{pair_due, pairs_from, part_of};
 
+use fields::record::Continuation;
 use raw::pair::SamplePair;
 use reader::Refused;
 use scan::{Scan, Stage};

@@ -7,6 +7,7 @@ ghost use Rattle.rawitems.specs.Pairs.{part_of};
 ghost use Rattle.rawsamples.specs.RawSamples.{if_valid, samples_of_pair, samples_of};
 ghost use Rattle.rawsamples.specs.Says.{SamplesSay};
 
+use fields::record::Record;
 use raw::pair::SamplePair;
 use rawitems::Pairs;
 use text::FARTHEST;

@@ -1,10 +1,10 @@
--- A refusal has a number, and two answers of one step are one. Assumes nothing.
+-- Two answers of one step are one. Assumes nothing.
 use Rattle.std.specs.Prelude.{◌≡◌, refl, Bool, true, false, eqb, Option, Some, None}
 use Rattle.std.proofs.Common.{ap, ap₂, eqb-true}
 use Rattle.std.specs.declared.result.Result.{Result}
 use Rattle.std.specs.declared.result.Result.TheVariants.{Ok, Err}
 use Rattle.refusals.specs.Refusal.{number_of}
-use Rattle.refusals.specs.RefusalLaws.{Outcome, told_inj, number_inj}
+use Rattle.refusals.specs.RefusalLaws.{number_inj}
 use Rattle.refusals.specs.declared.Refusal.{Refusal}
 use Rattle.items.specs.declared.Form.{Form}
 use Rattle.items.specs.declared.Item.{Item}
@@ -12,15 +12,6 @@ use Rattle.scan.specs.declared.Scan.{Scan}
 use Rattle.reader.specs.declared.Refused.{Refused}
 use Rattle.reader.specs.Step.{step_of}
 use Rattle.reader.specs.Judged.{judged_of}
-
-pub number_some : (r : Refusal) → eqb (number_of r) 0 ≡ false
-number_some r = go (eqb (number_of r) 0) refl
-  where
-    go : (b : Bool) → eqb (number_of r) 0 ≡ b → b ≡ false
-    go true e =
-        let same : ◌≡◌ {A = Outcome} (Err r) (Ok tt) = told_inj (Err r) (Ok tt) (eqb-true _ _ e) in
-        cc
-    go false e = refl
 
 pub refused_inj : (a b : Refused) → number_of a.refusal ≡ number_of b.refusal → a.place ≡ b.place → a ≡ b
 refused_inj a b e f = λ i. record { refusal = number_inj a.refusal b.refusal e i; place = f i }

@@ -5,6 +5,7 @@ ghost use Rattle.reader.specs.Step.{step_of};
 ghost use Rattle.reader.specs.Reader.{step_at};
 
 use crate::Refused;
+use fields::record::Continuation;
 use items::Form;
 use raw::pair::SamplePair;
 use refusals::Refusal;

@@ -19,7 +19,7 @@ fn clear(out: &mut [u64])
     ensures { out.new ≡ record_stored out.old no_numbers }
 {
     let none = ends::no_numbers();
-    copies::put64(out, 0, &none);
+    copies::put(out, 0, &none);
 }
 
 // A record: with room for it, the scan moves behind it.
@@ -30,7 +30,7 @@ fn took(numbers: &mut [u32], out: &mut [u64], x: Record, after: Scan) -> u64
         return BAD_ANSWER;
     }
     let new = cells::record_numbers(x);
-    copies::put64(out, 0, &new);
+    copies::put(out, 0, &new);
     cursors::put_scan(numbers, after);
     u64::from(after.place)
 }
@@ -43,7 +43,7 @@ fn ended(out: &mut [u64], words: u32) -> u64
         return BAD_ANSWER;
     }
     let end = ends::end_numbers();
-    copies::put64(out, 0, &end);
+    copies::put(out, 0, &end);
     u64::from(words)
 }
 

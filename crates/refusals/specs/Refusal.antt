@@ -42,6 +42,10 @@ number_of Bytes = 16
 -- 02: "19 frame data not a multiple of sixteen"
 number_of Frames = 19
 
+-- what a call answers that gives nothing but whether it is refused
+abbrev pub Outcome : Type 0
+Outcome = Result Unit Refusal
+
 -- what is told of a call: 0 is no refusal
 abbrev pub told : {A : Type 0} → Result A Refusal → ℕ
 told (Ok x) = 0

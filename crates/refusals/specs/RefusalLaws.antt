@@ -5,11 +5,7 @@ use Rattle.std.specs.declared.result.Result.{Result}
 use Rattle.std.specs.declared.result.Result.TheVariants.{Ok, Err}
 use Rattle.refusals.specs.declared.Refusal.{Refusal}
 use Rattle.refusals.specs.declared.Refusal.TheVariants.{Setting, Store, Sample, Channel, Length, Posted, Turn, Number, Room, State, Missing, Unallowed, Bits, Count, Slot, Bytes, Frames}
-use Rattle.refusals.specs.Refusal.{number_of, told, or_else}
-
--- what a call answers that gives nothing but whether it is refused
-abbrev pub Outcome : Type 0
-Outcome = Result Unit Refusal
+use Rattle.refusals.specs.Refusal.{Outcome, number_of, told, or_else}
 
 -- in the order of their numbers; 17 and 18 are none's
 abbrev outcomes : List Outcome
@@ -48,6 +44,28 @@ refusal_in (Err r) = r
 
 pub number_inj : (a b : Refusal) → number_of a ≡ number_of b → a ≡ b
 number_inj a b e = ap refusal_in (told_inj (Err a) (Err b) e)
+
+-- a refusal's number is not that of none
+pub number_some : (r : Refusal) → eqb (number_of r) 0 ≡ false
+number_some r = go (eqb (number_of r) 0) refl
+  where
+    go : (b : Bool) → eqb (number_of r) 0 ≡ b → b ≡ false
+    go true e =
+        let same : ◌≡◌ {A = Outcome} (Err r) (Ok tt) = told_inj (Err r) (Ok tt) (eqb-true _ _ e) in
+        cc
+    go false e = refl
+
+-- an answer of that value where it is not refused
+abbrev with_value : {A : Type 0} → A → Outcome → Result A Refusal
+with_value x (Ok u) = Ok x
+with_value x (Err r) = Err r
+
+-- an answer is known by what is told of it and its value
+pub answer_inj : {A : Type 0} (value : Result A Refusal → A) → ((x : A) → value (Ok x) ≡ x) → (a b : Result A Refusal) → told a ≡ told b → value a ≡ value b → a ≡ b
+answer_inj value ok (Ok x) (Ok y) e v = ap Ok (sym (ok x) ∙ v ∙ ok y)
+answer_inj value ok (Ok x) (Err r) e v = ap (with_value x) (told_inj (Ok tt) (Err r) e)
+answer_inj value ok (Err r) (Ok y) e v = ap (with_value y) (told_inj (Err r) (Ok tt) e)
+answer_inj value ok (Err r) (Err q) e v = ap Err (number_inj r q e)
 
 -- no later refusal
 pub none_later : (k : ℕ) → or_else k 0 ≡ k

@@ -4,7 +4,7 @@
 #![tactic(auto)]
 
 ghost use Rattle.std.specs.Prelude.{◌≡◌, cond, ◌*◌, ltb};
-ghost use Rattle.refusals.specs.Refusal.{number_of};
+ghost use Rattle.refusals.specs.Refusal.{told};
 ghost use Rattle.state.specs.State.{state_ok};
 ghost use Rattle.refusing.specs.Tables.{open_block_number, open_event_number, post_number, before_room, finish_number};
 
@@ -25,128 +25,112 @@ fn store_short(room: usize, nw: usize) -> bool
 }
 
 // A call out of turn: 10 for a state that breaks its ranges, which comes first, else 7.
-fn out_of_turn(s: State) -> Refusal
-    ensures { number_of result ≡ cond (state_ok s) 7 10 }
+fn out_of_turn(s: State) -> Result<(), Refusal>
+    ensures { told result ≡ cond (state_ok s) 7 10 }
 {
     if state_ok(s) {
-        return Refusal::Turn;
+        return Err(Refusal::Turn);
     }
-    Refusal::State
+    Err(Refusal::State)
 }
 
-pub fn open_block_check(s: State, room: usize, number: u32, events: u32) -> Refusal
-    ensures { number_of result ≡ open_block_number s room number events }
+pub fn open_block_check(s: State, room: usize, number: u32, events: u32) -> Result<(), Refusal>
+    ensures { told result ≡ open_block_number s room number events }
 {
-    let phase = s.phase;
-    let settings = s.settings;
-    if !is_idle(phase) {
+    if !is_idle(s.phase) {
         return out_of_turn(s);
     }
-    let good = common_ok(s);
-    if !good | !idle_ok(s) {
-        return Refusal::State;
+    if !common_ok(s) | !idle_ok(s) {
+        return Err(Refusal::State);
     }
     if !block_ok(number, events) {
-        return Refusal::Number;
+        return Err(Refusal::Number);
     }
-    if room_short(room, s.words, head_words(settings.parameters)) {
-        return Refusal::Room;
+    if room_short(room, s.words, head_words(s.settings.parameters)) {
+        return Err(Refusal::Room);
     }
-    Refusal::None
+    Ok(())
 }
 
-pub fn open_event_check(s: State, number: u32, time: u64) -> Refusal
-    ensures { number_of result ≡ open_event_number s number time }
+pub fn open_event_check(s: State, number: u32, time: u64) -> Result<(), Refusal>
+    ensures { told result ≡ open_event_number s number time }
 {
-    let phase = s.phase;
-    if !is_block(phase) {
+    if !is_block(s.phase) {
         return out_of_turn(s);
     }
-    let good = common_ok(s);
-    if !good | !between_ok(s) {
-        return Refusal::State;
+    if !common_ok(s) | !between_ok(s) {
+        return Err(Refusal::State);
     }
     if !(s.closed < s.events) {
-        return Refusal::Turn;
+        return Err(Refusal::Turn);
     }
     if !event_ok(number, time) {
-        return Refusal::Number;
+        return Err(Refusal::Number);
     }
-    Refusal::None
+    Ok(())
 }
 
 // The window's samples are looked at last.
-pub fn post_check(s: State, room: usize, channel: usize, window: &[u16]) -> Refusal
-    ensures { number_of result ≡ post_number s room channel window.now }
+pub fn post_check(s: State, room: usize, channel: usize, window: &[u16]) -> Result<(), Refusal>
+    ensures { told result ≡ post_number s room channel window.now }
 {
-    let phase = s.phase;
-    let settings = s.settings;
-    let posted = s.posted;
-    if !is_event(phase) {
+    if !is_event(s.phase) {
         return out_of_turn(s);
     }
-    let good = common_ok(s);
-    if !good | !during_ok(s) {
-        return Refusal::State;
+    if !common_ok(s) | !during_ok(s) {
+        return Err(Refusal::State);
     }
     if 15 < channel {
-        return Refusal::Channel;
+        return Err(Refusal::Channel);
     }
-    if window.len() != settings.nw {
-        return Refusal::Length;
+    if window.len() != s.settings.nw {
+        return Err(Refusal::Length);
     }
-    if posted[channel] {
-        return Refusal::Posted;
+    if s.posted[channel] {
+        return Err(Refusal::Posted);
     }
-    if store_short(room, settings.nw) {
-        return Refusal::Store;
+    if store_short(room, s.settings.nw) {
+        return Err(Refusal::Store);
     }
     if !samples::samples_ok(window) {
-        return Refusal::Sample;
+        return Err(Refusal::Sample);
     }
-    Refusal::None
+    Ok(())
 }
 
 // All that a close asks but the room. The rows are looked at only once the store is known to hold them.
-pub fn close_check(s: State, store: &[u16]) -> Refusal
-    ensures { number_of result ≡ before_room s store.now }
+pub fn close_check(s: State, store: &[u16]) -> Result<(), Refusal>
+    ensures { told result ≡ before_room s store.now }
 {
-    let phase = s.phase;
-    let settings = s.settings;
-    let posted = s.posted;
-    if !is_event(phase) {
+    if !is_event(s.phase) {
         return out_of_turn(s);
     }
-    let good = common_ok(s);
-    if !good | !during_ok(s) {
-        return Refusal::State;
+    if !common_ok(s) | !during_ok(s) {
+        return Err(Refusal::State);
     }
-    if store_short(store.len(), settings.nw) {
-        return Refusal::Store;
+    if store_short(store.len(), s.settings.nw) {
+        return Err(Refusal::Store);
     }
-    if !rows::rows_ok(settings, &posted, store) {
-        return Refusal::Sample;
+    if !rows::rows_ok(s.settings, &s.posted, store) {
+        return Err(Refusal::Sample);
     }
-    Refusal::None
+    Ok(())
 }
 
-pub fn finish_check(s: State, room: usize) -> Refusal
-    ensures { number_of result ≡ finish_number s room }
+pub fn finish_check(s: State, room: usize) -> Result<(), Refusal>
+    ensures { told result ≡ finish_number s room }
 {
-    let phase = s.phase;
-    let settings = s.settings;
-    if !is_block(phase) {
+    if !is_block(s.phase) {
         return out_of_turn(s);
     }
-    let good = common_ok(s);
-    if !good | !between_ok(s) {
-        return Refusal::State;
+    if !common_ok(s) | !between_ok(s) {
+        return Err(Refusal::State);
     }
     if s.closed != s.events {
-        return Refusal::Turn;
+        return Err(Refusal::Turn);
     }
-    if end_short(room, s.words, settings) {
-        return Refusal::Room;
+    if end_short(room, s.words, s.settings) {
+        return Err(Refusal::Room);
     }
-    Refusal::None
+    Ok(())
 }

@@ -1,15 +1,13 @@
 -- The rows of the store, and the marks, in turn. Assumes nothing.
-use Rattle.std.specs.Prelude.{ℕ, ◌+◌, ◌-◌, ◌*◌, ◌≤◌, ◌<◌, ◌≡◌, Bool, not, ◌&&◌, ◌||◌, List, [], ◌∷◌, length, get_or, take, drop, leb}
-use Rattle.std.proofs.Math.Path.{refl}
-use Rattle.std.proofs.Common.{sym, ap, ◌∙◌, arith, suc-mul, mul-le-mul_right, add-one, leb-true, le-leb, length-take, drop_of_length-le, drop-cons}
+use Rattle.std.specs.Prelude.{ℕ, ◌+◌, ◌-◌, ◌*◌, ◌≤◌, ◌<◌, ◌≡◌, Bool, List, [], ◌∷◌, length, get_or, take, drop, leb}
+use Rattle.std.proofs.Common.{sym, ap, ◌∙◌, arith, suc-mul, mul-le-mul_right, add-one, leb-true, le-leb, length-take, drop-cons}
 use Rattle.std.proofs.Math.Bool.{true, false}
 use Rattle.ground.specs.TestsLaws.{every, all_of_lem}
 use Rattle.limits.specs.Limits.{most_samples, channels}
 use Rattle.settings.specs.declared.Settings.{Settings}
 use Rattle.settings.specs.Ranges.{settings_ok}
 use Rattle.settings.specs.RangesLaws.{settings_in_range}
-use Rattle.samples.specs.Sample.{samples_ok}
-use Rattle.rows.specs.Rows.{row, lent_ok, rows_ok}
+use Rattle.rows.specs.Rows.{row, lent_ok}
 use Rattle.rows.specs.Inner.{Lent}
 
 -- ---- what is lent
@@ -50,25 +48,3 @@ part_row nw c store =
 -- the marks from c on: that of channel c, then those from c + 1 on
 pub marks_step : (posted : List Bool) (c : ℕ) → c < length posted → drop c posted ≡ get_or posted c false ∷ drop (c + 1) posted
 marks_step posted c h = drop-cons posted c false h ∙ ap (λ (n : ℕ). get_or posted c false ∷ drop n posted) (sym (add-one c))
-
--- ---- rows tested in turn
-
-module _ (nw : ℕ) (store : List ℕ) (posted : List Bool) (good : Bool) (c : ℕ) (so_far : good && rows_ok nw store c (drop c posted) ≡ rows_ok nw store 0 posted) where
-  pub rows_turn : (b : Bool) → b ≡ (not (get_or posted c false) || samples_ok (row nw c store)) → c < length posted
-      → (good && b) && rows_ok nw store (c + 1) (drop (c + 1) posted) ≡ rows_ok nw store 0 posted
-  unfolding rows_ok
-  rows_turn b e h =
-      let k = rw (marks_step posted c h) at so_far in
-      rw e (join good (not (get_or posted c false) || samples_ok (row nw c store)) (rows_ok nw store (c + 1) (drop (c + 1) posted)) ∙ k)
-    where
-      join : (x y z : Bool) → (x && y) && z ≡ x && (y && z)
-      join true y z = refl
-      join false y z = refl
-
-  pub rows_end : length posted ≤ c → good ≡ rows_ok nw store 0 posted
-  unfolding rows_ok
-  rows_end h = last good ∙ rw (drop_of_length-le posted h) at so_far
-    where
-      last : (x : Bool) → x ≡ x && true
-      last true = refl
-      last false = refl

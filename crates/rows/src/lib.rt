@@ -13,19 +13,16 @@ use settings::Settings;
 pub fn lent(settings: Settings, posted: &[bool], store: &[u16]) -> bool
     ensures { result ≡ lent_ok settings posted.now store.now }
 {
-    let good = settings::in_range(settings);
-    good & (posted.len() <= CHANNELS) & (settings.nw <= store.len() / CHANNELS)
+    settings::in_range(settings)
+        & (posted.len() <= CHANNELS)
+        & (settings.nw <= store.len() / CHANNELS)
 }
 
 // A posted channel's row has no sample over the greatest; no other row is looked at.
 fn row_ok(posted: bool, row: &[u16]) -> bool
     ensures { result ≡ (not posted || samples_ok row.now) }
 {
-    if posted {
-        samples::samples_ok(row)
-    } else {
-        true
-    }
+    !posted || samples::samples_ok(row)
 }
 
 // The same of every posted channel.
@@ -33,24 +30,15 @@ fn posted_ok(settings: Settings, posted: &[bool], store: &[u16]) -> bool
     requires { Lent settings posted.now store.now }
     ensures { result ≡ rows_ok settings.nw store.now 0 posted.now }
 {
-    let nw = settings.nw;
-    let mut good = true;
-    let mut channel = 0;
-    while channel < posted.len() {
-        let start = channel * nw;
-        let end = start + nw;
-        good = good & row_ok(posted[channel], &store[start..end]);
-        channel += 1;
-    }
-    good
+    posted
+        .iter()
+        .zip(store.chunks_exact(settings.nw))
+        .fold(true, |good, (posted, row)| good & row_ok(*posted, row))
 }
 
 // What is lent is enough for an event, and no posted row has a sample over the greatest.
 pub fn rows_ok(settings: Settings, posted: &[bool], store: &[u16]) -> bool
     ensures { result ≡ (lent_ok settings posted.now store.now && rows_ok settings.nw store.now 0 posted.now) }
 {
-    if lent(settings, posted, store) {
-        return posted_ok(settings, posted, store);
-    }
-    false
+    lent(settings, posted, store) && posted_ok(settings, posted, store)
 }

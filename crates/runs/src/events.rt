@@ -3,6 +3,7 @@ ghost use Rattle.std.specs.Prelude.{◌≡◌, ◌*◌, ◌≤◌, length};
 ghost use Rattle.fields.specs.Bytes.{words_of_bytes};
 ghost use Rattle.runs.specs.Runs.{head_size, HeadTo, PassedTo};
 
+use fields::record::{Continuation, Defining};
 use framing::event_header::EventHeader;
 use framing::trigger_time::TriggerTime;
 use framing::trigger_time_high::TriggerTimeHigh;
@@ -16,6 +17,7 @@ pub(crate) struct Events {
 
 // How many words an event's head has, by the two behind its header: a defining word shows that no more come. 0 where they are
 // left to the reader.
+#[tactic(auto, unfolding(crate::specs::Runs::head_size))]
 fn head_size(low: u32, high: u32) -> usize
     ensures { (result ≤ 3) × (result ≡ head_size low high) }
 {
@@ -59,19 +61,21 @@ fn heads_end(bytes: &[u8], from: usize, end: usize, slot: u32, left: u32) -> Eve
     ensures { (result.next ≤ end) × PassedTo (words_of_bytes bytes.now) slot from left result.next result.left }
 {
     let mut k = from;
-    let mut n = left;
-    while 0 < n {
+    for passed in 0..left {
         let next = head_end(bytes, k, end, slot);
         if next == k {
-            return Events { next: k, left: n };
+            return Events {
+                next: k,
+                left: left - passed,
+            };
         }
         k = next;
-        n -= 1;
     }
-    Events { next: k, left: n }
+    Events { next: k, left: 0 }
 }
 
-// The items that stand here, and event by event as long as the head of one is passed.
+// The items that stand here, and event by event as long as the head of one is passed. A step is as long as the event, which no
+// `for` says.
 pub(crate) fn events_end(bytes: &[u8], from: usize, end: usize, slot: u32, left: u32) -> Events
     requires { (from ≤ end) × (4 * end ≤ length bytes.now) }
     ensures { (result.next ≤ end) × PassedTo (words_of_bytes bytes.now) slot from left result.next result.left }

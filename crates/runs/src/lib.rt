@@ -2,10 +2,11 @@
 // there is left to the reader's step of one word, and so is every refusal.
 #![tactic(auto)]
 
-ghost use Rattle.std.specs.Prelude.{◌≡◌, true, ◌+◌, ◌*◌, ◌≤◌, ◌<◌, min, length, get_or};
+ghost use Rattle.std.specs.Prelude.{◌≡◌, true, ◌+◌, ◌*◌, ◌≤◌, ◌<◌, length, get_or};
 ghost use Rattle.fields.specs.Bytes.{words_of_bytes};
 ghost use Rattle.runs.specs.Runs.{Behind, Passed, Onward};
 
+use fields::record::Defining;
 use framing::trailer::BlockTrailer;
 use framing::trigger_time::TriggerTime;
 use scan::{Scan, Stage};
@@ -33,12 +34,6 @@ fn joined_at(bytes: &[u8], k: usize) -> u32
     stretches::word_at(&bytes[from..to], 0)
 }
 
-fn less(x: usize, y: usize) -> usize
-    ensures { result ≡ min x y }
-{
-    if x < y { x } else { y }
-}
-
 // Behind the item or the measures that stand here, or here.
 fn item_end(bytes: &[u8], k: usize, end: usize) -> usize
     requires { (k < end) × (4 * end ≤ length bytes.now) }
@@ -56,6 +51,7 @@ fn item_end(bytes: &[u8], k: usize, end: usize) -> usize
     k + stretches::measured_count(&bytes[from..to])
 }
 
+// Past the items that stand here. A step is as long as the item, which no `for` says.
 fn items_end(bytes: &[u8], from: usize, end: usize) -> usize
     requires { (from ≤ end) × (4 * end ≤ length bytes.now) }
     ensures { (result ≤ end) × Passed (words_of_bytes bytes.now) from result }
@@ -72,21 +68,15 @@ fn items_end(bytes: &[u8], from: usize, end: usize) -> usize
 }
 
 // Whether this word stands as behind an item: so does a defining word where a time word might come.
+#[tactic(auto, using(crate::specs::RunsLaws::behind_header))]
 fn is_behind(scan: Scan, word: u32) -> bool
     ensures { result ≡ true → Behind scan word }
 {
-    let p = scan.stage;
-    match p {
-        Stage::Start => false,
-        Stage::Head => false,
-        Stage::Front => false,
+    match scan.stage {
         Stage::Opened => !(fields::is_continuation(word) | TriggerTime::is(word)),
         Stage::Timed(_) => !fields::is_continuation(word),
         Stage::Items => true,
-        Stage::Window(_, _) => false,
-        Stage::Raw(_, _) => false,
-        Stage::Tail(_) => false,
-        Stage::Scalers(_) => false,
+        _ => false,
     }
 }
 
@@ -95,25 +85,19 @@ pub fn past_items(scan: Scan, bytes: &[u8], k: usize) -> Place
     ensures { Onward bytes.now scan k result.scan result.next }
 {
     let count = bytes.len() / 4;
-    if is_behind(scan, stretches::word_at(bytes, k)) {
-        if k < count {
-            if scan.place < PLACE_MAX {
-                let room = less(count - k, (PLACE_MAX - scan.place) as usize);
-                let run = events::events_end(bytes, k, k + room, scan.slot, scan.left);
-                return Place {
-                    scan: Scan {
-                        place: scan.place + ((run.next - k) as u32),
-                        slot: scan.slot,
-                        left: run.left,
-                        stage: Stage::Items,
-                    },
-                    next: run.next,
-                };
-            }
-        }
+    let behind = is_behind(scan, stretches::word_at(bytes, k));
+    if behind && k < count && scan.place < PLACE_MAX {
+        let room = usize::min(count - k, (PLACE_MAX - scan.place) as usize);
+        let run = events::events_end(bytes, k, k + room, scan.slot, scan.left);
+        return Place {
+            scan: Scan {
+                place: scan.place + ((run.next - k) as u32),
+                left: run.left,
+                stage: Stage::Items,
+                ..scan
+            },
+            next: run.next,
+        };
     }
-    Place {
-        scan: scan,
-        next: k,
-    }
+    Place { scan, next: k }
 }

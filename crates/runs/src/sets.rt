@@ -8,6 +8,7 @@ ghost use Rattle.raw.specs.Plain.{plain};
 ghost use Rattle.stretches.specs.Stretches.{single, All};
 ghost use Rattle.runs.specs.Runs.{raw_head, Passed};
 
+use fields::record::Defining;
 use raw::pulse_raw::PulseRaw;
 use raw::window::WindowRaw;
 
@@ -18,6 +19,7 @@ pub(crate) fn is_window(word: u32) -> bool
     WindowRaw::is(word) & WindowRaw::fixed(word)
 }
 
+#[tactic(auto, unfolding(crate::specs::Runs::raw_head))]
 pub(crate) fn is_raw(word: u32) -> bool
     ensures { result ≡ raw_head word }
 {
@@ -75,7 +77,7 @@ pub(crate) fn raw_end(bytes: &[u8], k: usize, end: usize) -> usize
     requires { ((k < end) × (4 * end ≤ length bytes.now)) × (raw_head (get_or (words_of_bytes bytes.now) k 0) ≡ true) }
     ensures { (result ≤ end) × Passed (words_of_bytes bytes.now) k result }
 {
-    let most = crate::less(k + limits::MOST_RAW, end);
+    let most = usize::min(k + limits::MOST_RAW, end);
     let full = few_end(bytes, k + 1, most);
     if full == end {
         return k;

@@ -1,9 +1,10 @@
 -- An amplitude's limit, over by the amplitude, and a window tested in parts. Assumes nothing.
-use Rattle.std.specs.Prelude.{ℕ, zero, suc, ◌+◌, ◌-◌, ◌≤◌, ◌≡◌, refl, Bool, true, false, ◌&&◌, List, [], ◌∷◌, leb, ltb, length, take, drop}
-use Rattle.std.proofs.Common.{sym, ◌∙◌, length-drop, take_all, drop-drop, arith}
-use Rattle.std.proofs.Math.Bool.{and-false, and_assoc}
+use Rattle.std.specs.Prelude.{ℕ, ◌+◌, ◌-◌, ◌≤◌, ◌≡◌, refl, Bool, true, false, ◌&&◌, List, [], ◌∷◌, ◌++◌, leb, ltb, length, take, drop, fold}
+use Rattle.std.proofs.Common.{sym, ap, ◌∙◌, append_assoc, length-append, length-drop, take_all, take-append-drop, arith}
+use Rattle.std.proofs.Math.Bool.{and_assoc}
+use Rattle.std.proofs.lemmas.List.{drop-append-le}
 use Rattle.ground.specs.Tests.{all_le}
-use Rattle.ground.specs.TestsLaws.{and_right}
+use Rattle.ground.specs.TestsLaws.{and_right, all_le_fold}
 use Rattle.samples.specs.Sample.{most_sample, samples_ok, amp, most_amp, is_over}
 
 pub amp_le : (x : ℕ) → amp x ≤ most_amp
@@ -14,27 +15,58 @@ pub over_amp : (t x : ℕ) → is_over t x ≡ ltb t (amp x)
 unfolding is_over
 over_amp t x = refl
 
+-- ---- a window in one go
+
+pub samples_fold : (w : List ℕ) → fold (λ good x. good && leb x most_sample) true w ≡ samples_ok w
+unfolding samples_ok
+samples_fold w = all_le_fold most_sample w
+
 -- ---- a window in parts
 
-parts_ok : (n : ℕ) (w : List ℕ) → samples_ok w ≡ samples_ok (take n w) && samples_ok (drop n w)
+samples_parts : (a b : List ℕ) → samples_ok (a ++ b) ≡ samples_ok a && samples_ok b
 unfolding samples_ok all_le
-parts_ok zero w = refl
-parts_ok (suc n) [] = refl
-parts_ok (suc n) (x ∷ w) = rw (parts_ok n w) (sym (and_assoc (leb x most_sample) (all_le most_sample (take n w)) (all_le most_sample (drop n w))))
+samples_parts [] b = refl
+samples_parts (x ∷ a) b = rw (samples_parts a b) (sym (and_assoc (leb x most_sample) (all_le most_sample a) (all_le most_sample b)))
 
--- from k on: the part up to e, and from e on
-pub part_then : (k e : ℕ) (w : List ℕ) (r : Bool) → k ≤ e → r ≡ samples_ok (take (e - k) (drop k w)) → samples_ok (drop k w) ≡ r && samples_ok (drop e w)
-part_then k e w r l h =
-    let z : k + (e - k) ≡ e = omega arith in
-    rw h (rw (drop-drop (e - k) k w, z) at (parts_ok (e - k) (drop k w)))
+-- rest is what is left of the window, but for at most one sample behind it; what is before it passed
+pub record Passed (window rest : List ℕ) : Type 0 where
+  pub front : List ℕ
+  pub behind : List ℕ
+  pub whole : window ≡ front ++ (rest ++ behind)
+  pub good : samples_ok front ≡ true
+  pub short : length behind ≤ 1
 
--- where all up to k passed, the part from l on, which may begin before k, tells of the whole
-pub part_last : (k l : ℕ) (w : List ℕ) (r : Bool) → samples_ok w ≡ samples_ok (drop k w) → l ≤ k → r ≡ samples_ok (take (length w - l) (drop l w)) → r ≡ samples_ok w
-part_last k l w r i g h =
-    let all = take_all (length w - l) (drop l w) (rw length-drop (omega arith)) in
-    let after = rw (← i) at (part_then l k w (samples_ok (take (k - l) (drop l w))) g refl) in
-    h ∙ rw all (same (samples_ok (take (k - l) (drop l w))) (samples_ok (take l w)) (samples_ok (drop l w)) (samples_ok w) after (parts_ok l w))
-  where
-    same : (a b x y : Bool) → x ≡ a && y → y ≡ b && x → x ≡ y
-    same a b true y p q = sym (and_right a y (sym p))
-    same a b false y p q = sym (q ∙ and-false b)
+pub none_passed : (w rest : List ℕ) → rest ≡ take (length w - 1) w → Passed w rest
+unfolding samples_ok all_le
+none_passed w rest e =
+    rw e record { front = []; behind = drop (length w - 1) w; whole = sym (take-append-drop (length w - 1) w); good = refl; short = simp length-drop (omega arith) }
+
+module _ {w : List ℕ} {rest : List ℕ} (p : Passed w rest) (x more : List ℕ) (next : rest ≡ x ++ more) where
+  cut : w ≡ p.front ++ (x ++ (more ++ p.behind))
+  cut = p.whole ∙ ap (λ (l : List ℕ). p.front ++ l) (ap (λ (l : List ℕ). l ++ p.behind) next ∙ append_assoc x more p.behind)
+
+  pub more_passed : samples_ok x ≡ true → Passed w more
+  more_passed g =
+      record {
+        front = p.front ++ x;
+        behind = p.behind;
+        whole = cut ∙ sym (append_assoc p.front x (more ++ p.behind));
+        good = samples_parts p.front x ∙ rw (p.good, g);
+        short = p.short;
+      }
+
+  pub one_fails : samples_ok x ≡ false → samples_ok w ≡ false
+  one_fails b = rw (cut, samples_parts, samples_parts, p.good, b)
+
+-- the part from place l on tells of the whole where it begins no later than the rest
+pub all_passed : {w rest : List ℕ} (p : Passed w rest) (l : ℕ) (r : Bool) → l + length rest + 1 ≤ length w → r ≡ samples_ok (take (length w - l) (drop l w)) → r ≡ samples_ok w
+all_passed {w} {rest} p l r h e =
+    let long : l ≤ length p.front = omega (arith, ap length p.whole, length-append p.front (rest ++ p.behind), length-append rest p.behind, p.short) in
+    let part : drop l w ≡ drop l p.front ++ (rest ++ p.behind) = rw p.whole (drop-append-le l p.front (rest ++ p.behind) long) in
+    let kept : samples_ok (drop l p.front) ≡ true = and_right (samples_ok (take l p.front)) _ (sym (samples_parts (take l p.front) (drop l p.front)) ∙ ap samples_ok (take-append-drop l p.front) ∙ p.good) in
+    e
+    ∙ ap samples_ok (take_all (length w - l) (drop l w) (rw length-drop (omega arith)) ∙ part)
+    ∙ samples_parts (drop l p.front) (rest ++ p.behind)
+    ∙ ap (λ (b : Bool). b && samples_ok (rest ++ p.behind)) (kept ∙ sym p.good)
+    ∙ sym (samples_parts p.front (rest ++ p.behind))
+    ∙ ap samples_ok (sym p.whole)

@@ -30,13 +30,8 @@ const CHUNK: usize = 64;
 fn part_ok(part: &[u16]) -> bool
     ensures { result ≡ samples_ok part.now }
 {
-    let mut good = true;
-    let mut i = 0;
-    while i < part.len() {
-        good = good & (part[i] <= SAMPLE_MAX);
-        i += 1;
-    }
-    good
+    part.iter()
+        .fold(true, |good, sample| good & (*sample <= SAMPLE_MAX))
 }
 
 // No sample of the window is over the greatest. The last chunk may overlap the one before it.
@@ -47,14 +42,10 @@ pub fn samples_ok(window: &[u16]) -> bool
     if n < CHUNK {
         return part_ok(window);
     }
-    let last = n - CHUNK;
-    let mut k = 0;
-    while k < last {
-        let end = k + CHUNK;
-        if !part_ok(&window[k..end]) {
+    for chunk in window[..n - 1].chunks_exact(CHUNK) {
+        if !part_ok(chunk) {
             return false;
         }
-        k = end;
     }
-    part_ok(&window[last..])
+    part_ok(&window[n - CHUNK..])
 }

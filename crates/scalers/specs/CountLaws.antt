@@ -1,7 +1,7 @@
 -- Frames in a row: seen in parts, added up, and counted from one frame on. Assumes nothing.
-use Rattle.std.specs.Prelude.{◌≡◌, ℕ, zero, suc, ◌+◌, ◌-◌, ◌*◌, ◌/◌, ◌%◌, ◌^◌, ◌<◌, ◌≤◌, Bool, List, [], ◌∷◌, ◌++◌, map, length, take, drop, replicate, refl}
+use Rattle.std.specs.Prelude.{◌≡◌, ℕ, zero, suc, ◌+◌, ◌-◌, ◌*◌, ◌/◌, ◌%◌, ◌^◌, ◌<◌, ◌≤◌, min, Bool, List, [], ◌∷◌, ◌++◌, map, length, take, drop, replicate, refl}
 use Rattle.std.proofs.Math.Path.{sym, ap, ap₂}
-use Rattle.std.proofs.Common.{◌∙◌, append-nil, append_assoc, arith, length-append, drop-drop, take-take}
+use Rattle.std.proofs.Common.{◌∙◌, append-nil, append_assoc, arith, length-append, take-take, take-append-drop, take_at, drop_at}
 use Rattle.std.proofs.Math.ListN.{length-take, length-drop}
 use Rattle.ground.specs.Splice.{splice}
 use Rattle.ground.specs.SpliceLaws.{length_splice, splice_splice, splice_all}
@@ -15,23 +15,27 @@ use Rattle.scalers.specs.FrameLaws.{length_overs, length_rises, length_plus, und
 
 -- ---- one frame more
 
-pub frames_more : (samples : List ℕ) (at n : ℕ) → frames_in (suc n) (drop at samples) ≡ take frame_samples (drop at samples) ∷ frames_in n (drop (at + frame_samples) samples)
-unfolding frames_in
-frames_more samples at n = ap (λ (l : List ℕ). take frame_samples (drop at samples) ∷ frames_in n l) (drop-drop frame_samples at samples)
+pub frame_first : (frame rest : List ℕ) → length frame ≡ frame_samples → frames_of (frame ++ rest) ≡ frame ∷ frames_of rest
+unfolding frames_of frames_in
+frame_first frame rest e =
+    let n : length (frame ++ rest) / frame_samples ≡ suc (length rest / frame_samples) = omega (arith, length-append frame rest) in
+    rw (n, take_at frame rest 16 e, drop_at frame rest 16 e)
 
--- frames in two parts
-pub frames_parts : (m n : ℕ) (samples : List ℕ) → frames_in (m + n) samples ≡ frames_in m samples ++ frames_in n (drop (frame_samples * m) samples)
-unfolding frames_in
-frames_parts zero n samples =
-    let e : 0 + n ≡ n = omega arith in
-    rw e
-frames_parts (suc m) n samples =
-    let e : suc m + n ≡ suc (m + n) = omega arith in
-    let k : frame_samples + frame_samples * m ≡ frame_samples * suc m = omega arith in
-    let d : drop (frame_samples * m) (drop frame_samples samples) ≡ drop (frame_samples * suc m) samples = drop-drop (frame_samples * m) frame_samples samples ∙ ap (λ (j : ℕ). drop j samples) k in
-    ap (λ (j : ℕ). frames_in j samples) e
-    ∙ ap (λ (l : List (List ℕ)). take frame_samples samples ∷ l)
-    (frames_parts m n (drop frame_samples samples) ∙ ap (λ (l : List ℕ). frames_in m (drop frame_samples samples) ++ frames_in n l) d)
+-- frames in two parts, the first of them whole
+pub frames_joined : (many : ℕ) (part rest : List ℕ) → length part ≡ frame_samples * many → frames_of (part ++ rest) ≡ frames_of part ++ frames_of rest
+unfolding frames_of frames_in
+frames_joined zero [] rest e = refl
+frames_joined zero (x ∷ part) rest e = absurd (omega arith)
+frames_joined (suc many) part rest e =
+    let f = take frame_samples part in
+    let p = drop frame_samples part in
+    let size : length f ≡ frame_samples = omega (arith, length-take frame_samples part) in
+    let parts : part ≡ f ++ p = sym (take-append-drop frame_samples part) in
+    ap (λ (l : List ℕ). frames_of (l ++ rest)) parts
+    ∙ ap frames_of (append_assoc f p rest)
+    ∙ frame_first f (p ++ rest) size
+    ∙ ap (λ (fs : List (List ℕ)). f ∷ fs) (frames_joined many p rest (omega (arith, length-drop frame_samples part)))
+    ∙ sym (ap (λ (l : List ℕ). frames_of l ++ frames_of rest) parts ∙ ap (λ (fs : List (List ℕ)). fs ++ frames_of rest) (frame_first f p size))
 
 drop_take : (n m : ℕ) (l : List ℕ) → drop n (take m l) ≡ take (m - n) (drop n l)
 drop_take zero m l =
@@ -57,48 +61,41 @@ frames_part (suc m) samples size h =
     ap₂ (λ (f : List ℕ) (fs : List (List ℕ)). f ∷ fs) (take-take frame_samples size samples (omega arith))
     (ap (frames_in m) (drop_take frame_samples size samples) ∙ frames_part m (drop frame_samples samples) (size - frame_samples) (omega arith))
 
+-- the samples that are seen before what they add is added up
+abbrev most_seen : ℕ
+most_seen = 65536
+
 -- ---- frames seen one by one
 
--- what is left to see of frames, from the sample `at` on; at most as many rises as frames before it
-pub record ToSee (ts : List ℕ) (before : List Bool) (samples rises : List ℕ) (over : List Bool) (at : ℕ) : Type 0 where
+-- what is left to see of frames: those of `left`; at most as many rises as frames before it
+pub record ToSee (ts : List ℕ) (before : List Bool) (samples rises : List ℕ) (over : List Bool) (left : List ℕ) : Type 0 where
   pub done : ℕ
-  pub place : at ≡ frame_samples * done
-  pub within : at ≤ length samples
+  pub within : frame_samples * done + length left ≡ length samples
   pub lanes : (length rises ≡ 16) × (length over ≡ 16)
   pub few : Under done rises
-  pub seen : seen_from ts rises over (frames_in (length samples / frame_samples - done) (drop at samples)) ≡ seen_from ts (replicate 16 0) before (frames_of samples)
-  pub last : over_from ts over (frames_in (length samples / frame_samples - done) (drop at samples)) ≡ over_from ts before (frames_of samples)
+  pub seen : seen_from ts rises over (frames_of left) ≡ seen_from ts (replicate 16 0) before (frames_of samples)
+  pub last : over_from ts over (frames_of left) ≡ over_from ts before (frames_of samples)
 
 under_zeros : (n : ℕ) → Under 0 (replicate n 0)
 under_zeros zero = tt
 under_zeros (suc n) = (omega arith, under_zeros n)
 
-pub to_see : (ts : List ℕ) (before : List Bool) (samples : List ℕ) → length before ≡ 16 → ToSee ts before samples (replicate 16 0) before 0
-unfolding frames_of
-to_see ts before samples h =
-    let e : length samples / frame_samples - 0 ≡ length samples / frame_samples = omega arith in
-    record { done = 0; place = omega arith; within = omega arith; lanes = (refl, h); few = under_zeros 16; seen = rw e; last = rw e }
+pub to_see : (ts : List ℕ) (before : List Bool) (samples left : List ℕ) → length before ≡ 16 → left ≡ samples → ToSee ts before samples (replicate 16 0) before left
+to_see ts before samples left h e = rw e record { done = 0; within = omega arith; lanes = (refl, h); few = under_zeros 16; seen = refl; last = refl }
 
-module _ {ts : List ℕ} {before : List Bool} {samples rises : List ℕ} {over : List Bool} {at : ℕ} (c : ToSee ts before samples rises over at) where
+module _ {ts : List ℕ} {before : List Bool} {samples rises : List ℕ} {over : List Bool} {left : List ℕ} (c : ToSee ts before samples rises over left) where
   -- a frame more
-  pub see_turn : {frame rises' : List ℕ} {over' : List Bool} {end : ℕ} → length ts ≡ 16 → at + frame_samples ≤ length samples → end ≡ at + frame_samples → frame ≡ take frame_samples (drop at samples)
-      → rises' ≡ plus_of rises (rises_of over (overs_of ts frame)) → over' ≡ overs_of ts frame → ToSee ts before samples rises' over' end
+  pub see_turn : (frame : List ℕ) {rest rises' : List ℕ} {over' : List Bool} → length ts ≡ 16 → left ≡ frame ++ rest → length frame ≡ frame_samples
+      → rises' ≡ plus_of rises (rises_of over (overs_of ts frame)) → over' ≡ overs_of ts frame → ToSee ts before samples rises' over' rest
   unfolding seen_from over_from
-  see_turn {frame} {rises'} {over'} {end} t h e f p q =
-      let size : length frame ≡ 16 = ap length f ∙ omega (arith, length-take frame_samples (drop at samples), length-drop at samples) in
+  see_turn frame {rest} {rises'} {over'} t e size p q =
       let overs = length_overs ts frame (omega (arith, size)) in
       let more = length_rises over (overs_of ts frame) (omega (arith, overs, size, c.lanes.1)) in
       let sums = length_plus rises (rises_of over (overs_of ts frame)) (omega (arith, more, overs, size, c.lanes.0)) in
-      let n : length samples / frame_samples - c.done ≡ suc (length samples / frame_samples - (c.done + 1)) = omega (arith, c.place) in
-      let j : at + frame_samples ≡ end = sym e in
-      let next : frames_in (length samples / frame_samples - c.done) (drop at samples) ≡ frame ∷ frames_in (length samples / frame_samples - (c.done + 1)) (drop end samples) =
-      ap (λ (k : ℕ). frames_in k (drop at samples)) n
-      ∙ frames_more samples at (length samples / frame_samples - (c.done + 1))
-      ∙ ap₂ (λ (g : List ℕ) (k : ℕ). g ∷ frames_in (length samples / frame_samples - (c.done + 1)) (drop k samples)) (sym f) j in
+      let next : frames_of left ≡ frame ∷ frames_of rest = ap frames_of e ∙ frame_first frame rest size in
       record {
         done = c.done + 1;
-        place = omega (arith, c.place);
-        within = omega arith;
+        within = omega (arith, c.within, ap length e, length-append frame rest, size);
         lanes = (ap length p ∙ omega (arith, sums, c.lanes.0), ap length q ∙ omega (arith, overs, size));
         few = rw p (under_more c.done rises over (overs_of ts frame) c.few);
         seen = rw (p, q) (sym (ap (seen_from ts rises over) next) ∙ c.seen);
@@ -106,10 +103,10 @@ module _ {ts : List ℕ} {before : List Bool} {samples rises : List ℕ} {over :
       }
 
   -- none is left
-  pub see_end : length samples < at + frame_samples → (rises ≡ seen_from ts (replicate 16 0) before (frames_of samples)) × (over ≡ over_from ts before (frames_of samples))
-  unfolding seen_from over_from frames_in
+  pub see_end : length left < frame_samples → (rises ≡ seen_from ts (replicate 16 0) before (frames_of samples)) × (over ≡ over_from ts before (frames_of samples))
+  unfolding seen_from over_from frames_of frames_in
   see_end h =
-      let n : length samples / frame_samples - c.done ≡ 0 = omega (arith, c.place) in
+      let n : length left / frame_samples ≡ 0 = omega arith in
       (rw n at c.seen, rw n at c.last)
 
 -- ---- the counts of many frames
@@ -161,69 +158,74 @@ rises_le (b ∷ bs) [] = omega arith
 rises_le (b ∷ bs) (n ∷ ns) = omega (arith, rises_le bs ns)
 
 -- what was seen of some frames, added up, are the counts behind them
-part_counts : (ts counts rises : List ℕ) (over : List Bool) (m : ℕ) (l : List ℕ) → length over ≡ 16 → 1 ≤ m
-    → rises ≡ seen_from ts (replicate 16 0) over (frames_in m l) → added_to counts rises ≡ counts_from ts counts over (frames_in m l)
-unfolding frames_in counts_from seen_from
-part_counts ts counts rises over zero l o h e = absurd (omega arith)
-part_counts ts counts rises over (suc m) l o h e =
-    let f = take frame_samples l in
-    let fs = frames_in m (drop frame_samples l) in
+part_counts : (ts counts rises : List ℕ) (over : List Bool) (fs : List (List ℕ)) → length over ≡ 16 → 1 ≤ length fs
+    → rises ≡ seen_from ts (replicate 16 0) over fs → added_to counts rises ≡ counts_from ts counts over fs
+unfolding counts_from seen_from
+part_counts ts counts rises over [] o h e = absurd (omega arith)
+part_counts ts counts rises over (f ∷ fs) o h e =
     let r = rises_of over (overs_of ts f) in
     ap (added_to counts) (e ∙ ap (λ (x : List ℕ). seen_from ts x (overs_of ts f) fs) (plus_zeros 16 r (omega (arith, o, rises_le over (overs_of ts f)))))
     ∙ sym (counts_seen ts counts r (overs_of ts f) fs)
 
--- the frames of a part that is lent
-pub part_frames : (samples : List ℕ) (at size m : ℕ) → size ≡ frame_samples * m → at + size ≤ length samples → frames_of (take size (drop at samples)) ≡ frames_in m (drop at samples)
-unfolding frames_of
-part_frames samples at size m e h =
-    let n : length (take size (drop at samples)) / frame_samples ≡ m = omega (arith, length-take size (drop at samples), length-drop at samples) in
-    rw n (frames_part m (drop at samples) size (omega arith))
+length_frames : (n : ℕ) (l : List ℕ) → length (frames_in n l) ≡ n
+unfolding frames_in
+length_frames zero l = refl
+length_frames (suc n) l = ap suc (length_frames n (drop frame_samples l))
 
--- what is left of all frames, from the sample `at` on
-pub record ToCount (ts : List ℕ) (s : Scalers) (samples : List ℕ) (counts : List ℕ) (over : List Bool) (at : ℕ) : Type 0 where
-  pub left : ℕ
-  pub some : 1 ≤ left
-  pub place : at + frame_samples * left ≡ frame_samples * (length samples / frame_samples)
+pub many_frames : (samples : List ℕ) → length (frames_of samples) ≡ length samples / frame_samples
+unfolding frames_of
+many_frames samples = length_frames (length samples / frame_samples) samples
+
+-- the frames of all samples but those of no whole frame
+whole_frames : (samples : List ℕ) → frames_of (take (length samples / frame_samples * frame_samples) samples) ≡ frames_of samples
+unfolding frames_of
+whole_frames samples =
+    let size : ℕ = length samples / frame_samples * frame_samples in
+    let n : length (take size samples) / frame_samples ≡ length samples / frame_samples = omega (arith, length-take size samples) in
+    rw n (frames_part (length samples / frame_samples) samples size (omega arith))
+
+-- what is left to count of all frames: those of `left`
+pub record ToCount (ts : List ℕ) (s : Scalers) (samples : List ℕ) (counts : List ℕ) (over : List Bool) (left : List ℕ) : Type 0 where
+  pub many : ℕ
+  pub size : length left ≡ frame_samples * many
   pub lanes : length over ≡ 16
-  pub counted : counts_from ts counts over (frames_in left (drop at samples)) ≡ counts_from ts s.counts s.over (frames_of samples)
-  pub last : over_from ts over (frames_in left (drop at samples)) ≡ over_from ts s.over (frames_of samples)
+  pub counted : counts_from ts counts over (frames_of left) ≡ counts_from ts s.counts s.over (frames_of samples)
+  pub last : over_from ts over (frames_of left) ≡ over_from ts s.over (frames_of samples)
 
-pub to_count : (ts : List ℕ) (s : Scalers) (samples : List ℕ) → length s.over ≡ 16 → 1 ≤ length samples / frame_samples → ToCount ts s samples s.counts s.over 0
-unfolding frames_of
-to_count ts s samples o h = record { left = length samples / frame_samples; some = h; place = omega arith; lanes = o; counted = refl; last = refl }
+pub to_count : (ts : List ℕ) (s : Scalers) (samples left : List ℕ) → length s.over ≡ 16 → left ≡ take (length samples / frame_samples * frame_samples) samples → ToCount ts s samples s.counts s.over left
+to_count ts s samples left o e =
+    let w = ap frames_of e ∙ whole_frames samples in
+    record {
+      many = length samples / frame_samples;
+      size = ap length e ∙ omega (arith, length-take (length samples / frame_samples * frame_samples) samples);
+      lanes = o;
+      counted = ap (counts_from ts s.counts s.over) w;
+      last = ap (over_from ts s.over) w;
+    }
 
-module _ {ts : List ℕ} {s : Scalers} {samples counts : List ℕ} {over : List Bool} {at : ℕ} (c : ToCount ts s samples counts over at) where
-  -- m of them are counted
-  pub count_turn : (m : ℕ) {rises : List ℕ} {now : List Bool} {end : ℕ} → 1 ≤ m → m < c.left → end ≡ at + frame_samples * m → length now ≡ 16
-      → rises ≡ seen_from ts (replicate 16 0) over (frames_in m (drop at samples)) → now ≡ over_from ts over (frames_in m (drop at samples))
-      → ToCount ts s samples (added_to counts rises) now end
-  count_turn m {rises} {now} {end} h k e n p q =
-      let l : m + (c.left - m) ≡ c.left = omega arith in
-      let j : at + frame_samples * m ≡ end = sym e in
-      let d : drop (frame_samples * m) (drop at samples) ≡ drop end samples = drop-drop (frame_samples * m) at samples ∙ ap (λ (i : ℕ). drop i samples) j in
-      let parts : frames_in c.left (drop at samples) ≡ frames_in m (drop at samples) ++ frames_in (c.left - m) (drop end samples) =
-      ap (λ (i : ℕ). frames_in i (drop at samples)) (sym l) ∙ frames_parts m (c.left - m) (drop at samples) ∙ ap (λ (x : List ℕ). frames_in m (drop at samples) ++ frames_in (c.left - m) x) d in
+module _ {ts : List ℕ} {s : Scalers} {samples counts : List ℕ} {over : List Bool} {left : List ℕ} (c : ToCount ts s samples counts over left) where
+  -- a part of them is counted
+  pub count_turn : (part rest : List ℕ) {rises : List ℕ} {now : List Bool} → left ≡ part ++ rest → length part ≡ min most_seen (length left) → 0 < length left → length now ≡ 16
+      → rises ≡ seen_from ts (replicate 16 0) over (frames_of part) → now ≡ over_from ts over (frames_of part) → ToCount ts s samples (added_to counts rises) now rest
+  count_turn part rest {rises} {now} e size some n p q =
+      let whole : length part ≡ frame_samples * min 4096 c.many = omega (arith, size, c.size) in
+      let joined : frames_of left ≡ frames_of part ++ frames_of rest = ap frames_of e ∙ frames_joined (min 4096 c.many) part rest whole in
       record {
-        left = c.left - m;
-        some = omega arith;
-        place = omega (arith, c.place);
+        many = c.many - min 4096 c.many;
+        size = omega (arith, whole, c.size, ap length e, length-append part rest);
         lanes = n;
         counted =
-            ap₂ (λ (x : List ℕ) (o : List Bool). counts_from ts x o (frames_in (c.left - m) (drop end samples))) (part_counts ts counts rises over m (drop at samples) c.lanes h p) q
-            ∙ sym (counts_append ts counts over (frames_in m (drop at samples)) (frames_in (c.left - m) (drop end samples)))
-            ∙ ap (counts_from ts counts over) (sym parts)
+            ap₂ (λ (x : List ℕ) (o : List Bool). counts_from ts x o (frames_of rest)) (part_counts ts counts rises over (frames_of part) c.lanes (omega (arith, many_frames part, whole, some, c.size)) p) q
+            ∙ sym (counts_append ts counts over (frames_of part) (frames_of rest))
+            ∙ ap (counts_from ts counts over) (sym joined)
             ∙ c.counted;
-        last =
-            ap (λ (o : List Bool). over_from ts o (frames_in (c.left - m) (drop end samples))) q
-            ∙ sym (over_append ts over (frames_in m (drop at samples)) (frames_in (c.left - m) (drop end samples)))
-            ∙ ap (over_from ts over) (sym parts)
-            ∙ c.last;
+        last = ap (λ (o : List Bool). over_from ts o (frames_of rest)) q ∙ sym (over_append ts over (frames_of part) (frames_of rest)) ∙ ap (over_from ts over) (sym joined) ∙ c.last;
       }
 
-  -- the last of them are
-  pub count_end : {rises : List ℕ} {now : List Bool} → rises ≡ seen_from ts (replicate 16 0) over (frames_in c.left (drop at samples)) → now ≡ over_from ts over (frames_in c.left (drop at samples))
-      → (added_to counts rises ≡ counts_from ts s.counts s.over (frames_of samples)) × (now ≡ over_from ts s.over (frames_of samples))
-  count_end p q = (part_counts ts counts _ over c.left (drop at samples) c.lanes c.some p ∙ c.counted, q ∙ c.last)
+  -- none is left
+  pub count_end : length left ≡ 0 → (counts ≡ counts_from ts s.counts s.over (frames_of samples)) × (over ≡ over_from ts s.over (frames_of samples))
+  unfolding counts_from over_from frames_of frames_in
+  count_end h = (rw h at c.counted, rw h at c.last)
 
 -- ---- all that is counted, at once
 
@@ -261,11 +263,6 @@ some_counted : (ts : List ℕ) (s : Scalers) (f : List ℕ) (fs : List (List ℕ
 unfolding count_frames count_frame counts_from over_from
 some_counted ts s f fs = behind ts s (f ∷ []) fs
 
-length_frames : (n : ℕ) (l : List ℕ) → length (frames_in n l) ≡ n
-unfolding frames_in
-length_frames zero l = refl
-length_frames (suc n) l = ap suc (length_frames n (drop frame_samples l))
-
 -- at least one frame is counted
 pub counted_all_lem : (ts : List ℕ) (s : Scalers) (samples : List ℕ) → 1 ≤ length samples / frame_samples → count_frames ts s (frames_of samples) ≡ counted_all ts s (frames_of samples)
 unfolding frames_of frames_in
@@ -275,19 +272,15 @@ counted_all_lem ts s samples h = go (length samples / frame_samples) h
     go zero h = absurd (omega arith)
     go (suc n) h = some_counted ts s (take frame_samples samples) (frames_in n (drop frame_samples samples))
 
-pub many_frames : (samples : List ℕ) → length (frames_of samples) ≡ length samples / frame_samples
-unfolding frames_of
-many_frames samples = length_frames (length samples / frame_samples) samples
-
 -- what the code leaves behind all frames is all that is counted
-pub all_counted : (ts narrow : List ℕ) (s : Scalers) (samples counts : List ℕ) (timer : ℕ) (over : List Bool) → let groups = (s.part + length samples / 16 * 16 / 16) / 512 in 1 ≤ length samples / 16 → narrow ≡ map narrow_of ts
+pub all_counted : (ts narrow : List ℕ) (s : Scalers) (samples counts : List ℕ) (timer : ℕ) (over : List Bool) → let groups = (s.part + length samples / 16) / 512 in 1 ≤ length samples / 16 → narrow ≡ map narrow_of ts
     → counts ≡ counts_from narrow s.counts s.over (frames_of samples) → over ≡ over_from narrow s.over (frames_of samples) → timer ≡ (s.timer + groups % 2 ^ 32) % 2 ^ 32
-    → record { counts = counts; timer = timer; triggers = s.triggers; part = (s.part + length samples / 16 * 16 / 16) % 512; over = over; latched = s.latched } ≡ count_frames ts s (frames_of samples)
+    → record { counts = counts; timer = timer; triggers = s.triggers; part = (s.part + length samples / 16) % 512; over = over; latched = s.latched } ≡ count_frames ts s (frames_of samples)
 unfolding wrapped
 all_counted ts narrow s samples counts timer over some e p q t =
     let n = many_frames samples in
     let timer' : timer ≡ (s.timer + (s.part + length (frames_of samples)) / 512) % 2 ^ 32 = t ∙ omega (arith, n) in
-    let part : (s.part + length samples / 16 * 16 / 16) % 512 ≡ (s.part + length (frames_of samples)) % 512 = omega (arith, n) in
+    let part : (s.part + length samples / 16) % 512 ≡ (s.part + length (frames_of samples)) % 512 = omega (arith, n) in
     let counts' = p ∙ ap (λ (l : List ℕ). counts_from l s.counts s.over (frames_of samples)) e ∙ counts_narrow ts s.counts s.over (frames_of samples) in
     let over' = q ∙ ap (λ (l : List ℕ). over_from l s.over (frames_of samples)) e ∙ over_narrow ts s.over (frames_of samples) in
     (λ i. record { counts = counts' i; timer = timer' i; triggers = s.triggers; part = part i; over = over' i; latched = s.latched })

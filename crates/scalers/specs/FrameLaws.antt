@@ -15,12 +15,12 @@ length_overs [] f h = h
 length_overs (t ∷ ts) [] h = absurd (omega arith)
 length_overs (t ∷ ts) (x ∷ xs) h = ap suc (length_overs ts xs (omega arith))
 
-pub overs_at : (ts f : List ℕ) (c : ℕ) → c < length ts → c < length f → slice_index_or (overs_of ts f) c false ≡ is_over (slice_index ts c) (slice_index f c)
+pub overs_at : (ts f : List ℕ) (c : ℕ) (d : Bool) → c < length ts → c < length f → slice_index_or (overs_of ts f) c d ≡ is_over (slice_index ts c) (slice_index f c)
 unfolding overs_of
-overs_at [] f c h k = absurd (omega arith)
-overs_at (t ∷ ts) [] c h k = absurd (omega arith)
-overs_at (t ∷ ts) (x ∷ xs) zero h k = refl
-overs_at (t ∷ ts) (x ∷ xs) (suc c) h k = overs_at ts xs c (omega arith) (omega arith)
+overs_at [] f c d h k = absurd (omega arith)
+overs_at (t ∷ ts) [] c d h k = absurd (omega arith)
+overs_at (t ∷ ts) (x ∷ xs) zero d h k = refl
+overs_at (t ∷ ts) (x ∷ xs) (suc c) d h k = overs_at ts xs c d (omega arith) (omega arith)
 
 pub length_rises : (bs ns : List Bool) → length bs ≡ length ns → length (rises_of bs ns) ≡ length ns
 unfolding rises_of

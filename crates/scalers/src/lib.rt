@@ -6,7 +6,6 @@ ghost use Rattle.scalers.specs.Scalers.{nothing_counted, frames_of, count_frames
 
 use frames::MOST_SEEN;
 use limits::{CHANNELS, LATCHED};
-use std::num::wrapping_add_u32;
 
 mod frames;
 
@@ -49,39 +48,33 @@ pub fn none() -> Scalers
 pub fn trigger(s: Scalers) -> Scalers
     ensures { result ≡ triggered s }
 {
-    let mut more = s;
-    more.triggers = wrapping_add_u32(s.triggers, 1);
-    more
+    Scalers {
+        triggers: s.triggers.wrapping_add(1),
+        ..s
+    }
 }
 
 // Copies the counts, the timer and the triggers, all at once.
 pub fn latch(s: Scalers) -> Scalers
     ensures { result ≡ latched_now s }
 {
-    let counts = s.counts;
     let behind = [s.timer, s.triggers];
     let mut latched = [0u32; LATCHED];
-    copies::put32(&mut latched, 0, &counts);
-    copies::put32(&mut latched, CHANNELS, &behind);
-    let mut copied = s;
-    copied.latched = latched;
-    copied
+    copies::put(&mut latched, 0, &s.counts);
+    copies::put(&mut latched, CHANNELS, &behind);
+    Scalers { latched, ..s }
 }
 
 // Zeroes what is running; the latched counts and the last frame stay.
 pub fn reset(s: Scalers) -> Scalers
     ensures { result ≡ reset_now s }
 {
-    let counts = [0u32; 16];
     let over = s.over;
     let latched = s.latched;
     Scalers {
-        counts,
-        timer: 0,
-        triggers: 0,
-        part: 0,
         over,
         latched,
+        ..none()
     }
 }
 
@@ -89,35 +82,25 @@ pub fn reset(s: Scalers) -> Scalers
 pub fn count(s: Scalers, thresholds: [u32; 16], samples: &[u16]) -> Scalers
     ensures { result ≡ count_frames thresholds s (frames_of samples.now) }
 {
-    let whole = samples.len() / FRAME * FRAME;
-    if whole == 0 {
+    let frames = samples.len() / FRAME;
+    if frames == 0 {
         return s;
     }
-    let narrow = frames::narrowed(&thresholds);
+    let narrow = frames::narrowed(thresholds);
     let mut counts = s.counts;
     let mut over = s.over;
-    let mut at = 0;
-    while MOST_SEEN < whole - at {
-        let end = at + MOST_SEEN;
-        let seen = frames::see_frames(&narrow, over, &samples[at..end]);
-        let rises = seen.rises;
-        let sums = frames::added(counts, rises);
+    for part in samples[..frames * FRAME].chunks(MOST_SEEN) {
+        let seen = frames::see_frames(&narrow, over, part);
+        let sums = frames::added(counts, seen.rises);
         counts = sums;
         over = seen.over;
-        at = end;
     }
-    let last = frames::see_frames(&narrow, over, &samples[at..whole]);
-    let rises = last.rises;
-    let sums = frames::added(counts, rises);
-    let now_over = last.over;
-    let since = (s.part as usize) + whole / FRAME;
-    let kept = s.latched;
+    let since = (s.part as usize) + frames;
     Scalers {
-        counts: sums,
-        timer: wrapping_add_u32(s.timer, (since / GROUP % COUNTS) as u32),
-        triggers: s.triggers,
+        counts,
+        timer: s.timer.wrapping_add((since / GROUP % COUNTS) as u32),
         part: (since % GROUP) as u32,
-        over: now_over,
-        latched: kept,
+        over,
+        ..s
     }
 }

@@ -5,6 +5,7 @@ ghost use Rattle.items.specs.Items.{item_from};
 ghost use Rattle.scan.specs.After.{onward, paired, filled, scaled, after};
 
 use crate::{Scan, Stage};
+use fields::record::Record;
 use framing::block_header::BlockHeader;
 use items::Form;
 
@@ -15,26 +16,19 @@ const PAIRS_MAX: u32 = limits::MOST_PAIRS as u32;
 const FILLERS_MAX: u32 = 3;
 
 // The next place, or one more of a count; the largest stays.
+#[tactic(auto, unfolding(crate::specs::After::onward))]
 pub fn next_place(place: u32) -> u32
     ensures { result ≡ onward place }
 {
-    if place == 4294967295 {
-        return place;
-    }
-    place + 1
-}
-
-fn less(n: u32) -> u32
-    ensures { result ≡ n - 1 }
-{
-    if n == 0 { 0 } else { n - 1 }
+    place.saturating_add(1)
 }
 
 // Behind a type 4: half as many pairs as samples, rounded up.
+#[tactic(auto, unfolding(limits::specs::Limits::pairs_of))]
 fn window_stage(width: u32) -> Stage
     ensures { result ≡ Stage.Window (pairs_of width) (eqb (width % 2) 1) }
 {
-    Stage::Window(width / 2 + width % 2, width % 2 == 1)
+    Stage::Window(width.div_ceil(2), width % 2 == 1)
 }
 
 // Behind a pair of a window with n pairs to come.
@@ -54,42 +48,40 @@ fn raw_paired(n: u32, flag: u32) -> Stage
     if flag == 1 {
         Stage::Raw(0, true)
     } else {
-        Stage::Raw(less(n), true)
+        Stage::Raw(n.saturating_sub(1), true)
     }
 }
 
 fn pair_stage(scan: Scan, flag: u32) -> Stage
     ensures { result ≡ paired scan flag }
 {
-    let p = scan.stage;
-    match p {
+    match scan.stage {
         Stage::Window(n, odd) => window_paired(n, odd),
         Stage::Raw(n, _) => raw_paired(n, flag),
-        _ => p,
+        other => other,
     }
 }
 
 fn filler_stage(scan: Scan) -> Stage
     ensures { result ≡ filled scan }
 {
-    let p = scan.stage;
-    if let Stage::Tail(n) = p {
-        return Stage::Tail(less(n));
+    match scan.stage {
+        Stage::Tail(n) => Stage::Tail(n.saturating_sub(1)),
+        other => other,
     }
-    p
 }
 
 fn scaler_stage(scan: Scan) -> Stage
     ensures { result ≡ scaled scan }
 {
-    let p = scan.stage;
-    if let Stage::Scalers(n) = p {
-        return Stage::Scalers(less(n));
+    match scan.stage {
+        Stage::Scalers(n) => Stage::Scalers(n.saturating_sub(1)),
+        other => other,
     }
-    p
 }
 
 // Behind the block header: its slot, and the events that it states.
+#[tactic(auto, unfolding(crate::specs::After::after))]
 fn begun(scan: Scan, word: u32) -> Scan
     ensures { result ≡ after scan (item_from Form.Block word) }
 {
@@ -108,9 +100,9 @@ fn opened(scan: Scan) -> Scan
 {
     Scan {
         place: next_place(scan.place),
-        slot: scan.slot,
-        left: less(scan.left),
+        left: scan.left.saturating_sub(1),
         stage: Stage::Opened,
+        ..scan
     }
 }
 
@@ -120,12 +112,12 @@ pub fn moved(scan: Scan, stage: Stage) -> Scan
 {
     Scan {
         place: next_place(scan.place),
-        slot: scan.slot,
-        left: scan.left,
-        stage: stage,
+        stage,
+        ..scan
     }
 }
 
+#[tactic(auto, using(limits::proofs::LimitsLaws::most_pairs_lem), unfolding(crate::specs::After::after, framing::specs::Words::trigger_time_of, framing::specs::Words::scalers_of, raw::specs::Words::pair_of, raw::specs::Words::window_of))]
 pub fn scan_after(scan: Scan, form: Form, word: u32) -> Scan
     ensures { result ≡ after scan (item_from form word) }
 {
@@ -135,13 +127,10 @@ pub fn scan_after(scan: Scan, form: Form, word: u32) -> Scan
         Form::Trailer => moved(scan, Stage::Tail(FILLERS_MAX)),
         Form::Event => opened(scan),
         Form::Clock => moved(scan, Stage::Timed(fields::take(word, 24, 3))),
-        Form::ClockHigh => moved(scan, Stage::Items),
+        Form::ClockHigh | Form::Integral | Form::Time | Form::Pedestal => moved(scan, Stage::Items),
         Form::Window => moved(scan, window_stage(fields::take(word, 0, 12))),
         Form::Raw => moved(scan, Stage::Raw(PAIRS_MAX, false)),
         Form::Pair => moved(scan, pair_stage(scan, fields::take(word, 13, 1))),
-        Form::Integral => moved(scan, Stage::Items),
-        Form::Time => moved(scan, Stage::Items),
-        Form::Pedestal => moved(scan, Stage::Items),
         Form::Empty => moved(scan, Stage::Tail(0)),
         Form::Filler => moved(scan, filler_stage(scan)),
         Form::Scalers => moved(scan, Stage::Scalers(fields::take(word, 0, 6))),

@@ -1,13 +1,17 @@
 -- Laws of the search by chunks: many samples are passed at once. Assumes nothing.
-use Rattle.std.specs.Prelude.{ℕ, zero, suc, ◌+◌, ◌-◌, ◌≤◌, ◌<◌, ◌≡◌, refl, Bool, true, false, List}
-use Rattle.std.proofs.Common.{sym, ◌∙◌, arith, le-ltb}
+use Rattle.std.specs.Prelude.{ℕ, zero, suc, ◌+◌, ◌-◌, ◌*◌, ◌/◌, ◌%◌, ◌≤◌, ◌<◌, ◌≡◌, refl, max, Bool, true, false, List, [], ◌∷◌, length, get_or, take, drop, fold}
+use Rattle.std.specs.Simd.{first_chunks}
+use Rattle.std.proofs.Common.{sym, ◌∙◌, arith, le-ltb, zero-mul, suc-mul, drop-drop, add-one, mul-le-mul_right, div-mul-le_self, mod-lt, length-take, length-drop}
+use Rattle.std.proofs.Math.Nat.{mod-eq-sub-div-mul}
+use Rattle.std.proofs.lemmas.List.{get_or-take, get_or-drop, take_rest}
+use Rattle.std.proofs.lemmas.List.Elements.{All-nil, All-cons}
+use Rattle.samples.specs.Sample.{amp, is_over}
 use Rattle.std.proofs.Math.Bool.{and-true, and-false}
-use Rattle.std.proofs.Math.Decide.{dec_le}
 use Rattle.ground.specs.Search.{least}
 use Rattle.ground.specs.SearchLaws.{IsLeast, least_pass, least_here, least_end, least_found, least_none}
-use Rattle.search.specs.Search.{amp_at, over, starts}
-use Rattle.search.specs.SearchLaws.{over_at, starts_after}
-use Rattle.search.specs.Chunk.{NoneHigher, Passed}
+use Rattle.search.specs.Search.{over, starts}
+use Rattle.search.specs.SearchLaws.{starts_after}
+use Rattle.search.specs.Chunk.{NoneOver, Passed}
 
 -- ---- numbers that all fail are passed at once
 
@@ -49,19 +53,68 @@ none_found p s k m e r q i h z l n =
 
 -- ---- a chunk
 
-pub one_higher : (w : List ℕ) (k n high here r : ℕ) → NoneHigher w k n high → here ≡ amp_at w (k + n + 1) → (high ≤ r) × (here ≤ r) → NoneHigher w k (n + 1) r
-one_higher w k n high here r h e l = λ j a b.
-    elim (dec_le j (k + n)) [
-      | yes g ↦ omega (arith, h j a g)
-      | no g ↦ (let z : j ≡ k + n + 1 = omega arith in rw z (omega arith))
-    ]
+-- none is over where the highest is not
+pub fold_none_over : (t high : ℕ) (chunk : List ℕ) → fold (λ (h x : ℕ). max h (amp x)) high chunk ≤ t → (high ≤ t) × NoneOver t chunk
+fold_none_over t high [] l = (l, All-nil _)
+fold_none_over t high (x ∷ xs) l =
+    let r = fold_none_over t (max high (amp x)) xs l in
+    (omega (arith, r.0), All-cons (λ (x : ℕ). amp x ≤ t) x xs (omega (arith, r.0)) r.1)
 
--- where none of a chunk is over, the search goes on to its end; it may begin before the search stands
-pub chunk_none : (w : List ℕ) (t s k e a n high m : ℕ) → Passed (over w t) s e k → NoneHigher w a n high → high ≤ t → a ≤ k → k ≤ m → m ≤ a + n → m ≤ e
+-- where no sample of a chunk from a on is over, the search goes on to its end; the chunk may begin before the search stands
+pub chunk_none : (w : List ℕ) (t s k e a n m : ℕ) → Passed (over w t) s e k → NoneOver t (take n (drop a w)) → a + n ≤ length w → a ≤ k → k ≤ m → m ≤ a + n → m ≤ e
     → Passed (over w t) s e m
-chunk_none w t s k e a n high m i h g l q r f =
-    let pass = least_to (over w t) k m e q f (λ j x y. over_at w t j ∙ le-ltb t (amp_at w j) (omega (arith, h j (omega arith) (omega arith)))) in
+unfolding over is_over
+chunk_none w t s k e a n m i h fit g l q f =
+    let pass = least_to (over w t) k m e l f (λ j x y. le-ltb t (amp (get_or w (j - 1) 0)) (low j (omega arith) (omega arith))) in
     record { from = omega arith; to = f; same = i.same ∙ pass }
+  where
+    long : length (take n (drop a w)) ≡ n
+    long = simp (length-take, length-drop) (omega arith)
+
+    low : (j : ℕ) → a < j → j ≤ a + n → amp (get_or w (j - 1) 0) ≤ t
+    low j x y =
+        let z : a + (j - 1 - a) ≡ j - 1 = omega arith in
+        rw (get_or-take n (drop a w) (j - 1 - a) 0 (omega arith), get_or-drop a w (j - 1 - a) 0, z) at (h (j - 1 - a) 0 (omega (arith, long)))
+
+chunk_at : (n count i : ℕ) (w d : List ℕ) → i < count → get_or (first_chunks n count w) i d ≡ take n (drop (i * n) w)
+chunk_at n zero i w d l = absurd (omega arith)
+chunk_at n (suc count) zero w d l = rw zero-mul
+chunk_at n (suc count) (suc i) w d l =
+    let z : n + i * n ≡ suc i * n = omega (arith, suc-mul i n) in
+    chunk_at n count i (drop n w) d (omega arith) ∙ rw (drop-drop (i * n) n w, z)
+
+-- the samples after s in chunks: the search may go on behind the i-th, and so behind the next
+pub chunk_next : (w : List ℕ) (t s n i : ℕ) (chunk : List ℕ) → let v : List ℕ = take (length w - s) (drop s w) in s ≤ length w → i < length v / n
+    → chunk ≡ get_or (first_chunks n (length v / n) v) i chunk → NoneOver t chunk → Passed (over w t) s (length w) (s + i * n) → Passed (over w t) s (length w) (s + (i + 1) * n)
+chunk_next w t s n i chunk h l e q p =
+    let v : List ℕ = take (length w - s) (drop s w) in
+    let z : (i + 1) * n ≡ n + i * n = rw add-one (omega (arith, suc-mul i n)) in
+    let all : length v ≡ length w - s = rw take_rest (length-drop s w) in
+    let below : (i + 1) * n ≤ length v / n * n = mul-le-mul_right n (omega arith) in
+    let fit : (i + 1) * n ≤ length w - s = omega (arith, below, all, div-mul-le_self (length v) n) in
+    let here = rw (take_rest w s, drop-drop (i * n) s w) at (e ∙ chunk_at n (length v / n) i v chunk l) in
+    chunk_none w t s (s + i * n) (length w) (s + i * n) n _ p (rw here at q) (omega arith) (omega arith) (omega arith) (omega arith) (omega arith)
+
+-- and behind all of them to the end, where the last n samples are quiet
+pub chunk_last : (w : List ℕ) (t s n : ℕ) (last : List ℕ) → let v : List ℕ = take (length w - s) (drop s w) in 1 ≤ n → s ≤ length w → n ≤ length w
+    → last ≡ drop (length w - n) w → NoneOver t last → Passed (over w t) s (length w) (s + length v / n * n) → Passed (over w t) s (length w) (length w)
+chunk_last w t s n last a h l e q p =
+    let v : List ℕ = take (length w - s) (drop s w) in
+    let z : length w - (length w - n) ≡ n = omega arith in
+    let here = rw z at (take_rest w (length w - n)) in
+    let all : length v ≡ length w - s = rw take_rest (length-drop s w) in
+    let few : length v % n < n = mod-lt (length v) a in
+    let left = mod-eq-sub-div-mul (length v) n in
+    chunk_none w t s (s + length v / n * n) (length w) (length w - n) n (length w) p (rw here (rw e at q)) (omega arith) (omega arith) p.to (omega arith) (omega arith)
+
+-- or where nothing is left behind them
+pub chunk_all : (w : List ℕ) (t s n : ℕ) → let v : List ℕ = take (length w - s) (drop s w) in s ≤ length w → length v % n ≡ 0
+    → Passed (over w t) s (length w) (s + length v / n * n) → Passed (over w t) s (length w) (length w)
+chunk_all w t s n h z p =
+    let v : List ℕ = take (length w - s) (drop s w) in
+    let all : length v ≡ length w - s = rw take_rest (length-drop s w) in
+    let e : s + length v / n * n ≡ length w = omega (arith, p.to, z, mod-eq-sub-div-mul (length v) n, div-mul-le_self (length v) n) in
+    rw e at p
 
 -- ---- the search for a next pulse
 

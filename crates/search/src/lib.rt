@@ -1,10 +1,10 @@
 // Where a pulse is: document 01, "Finding pulses". Samples are numbered from 1, so 0 says that a search found none.
 #![tactic(auto)]
 
-ghost use Rattle.std.specs.Prelude.{◌≡◌, ◌+◌, ◌≤◌, length};
+ghost use Rattle.std.specs.Prelude.{◌≡◌, ◌+◌, ◌≤◌, length, IsTrue};
 ghost use Rattle.ground.specs.Search.{least};
-ghost use Rattle.search.specs.Search.{amp_at, over, any_over, next_tc, tc_from, early};
-ghost use Rattle.search.specs.Chunk.{NoneHigher, Passed};
+ghost use Rattle.search.specs.Search.{over, any_over, next_tc, tc_from, early};
+ghost use Rattle.search.specs.Chunk.{NoneOver, Passed};
 
 // The samples of a small chunk. A search begins with so many one by one: where pulses are many, the next one is near.
 const FEW: usize = 16;
@@ -25,65 +25,44 @@ fn first_over(window: &[u16], threshold: u32, s: usize, n: usize) -> usize
     requires { s + n ≤ length window.now }
     ensures { result ≡ least (over window.now threshold) s (s + n) }
 {
-    let mut j = 0;
-    while j < n {
+    for j in 0..n {
         if is_over(window, threshold, s + j + 1) {
             return s + j + 1;
         }
-        j += 1;
     }
     0
 }
 
-// The amplitude of sample k, no wider than the sample is.
-fn amplitude_at(window: &[u16], k: usize) -> u16
-    requires { (1 ≤ k) × (k ≤ length window.now) }
-    ensures { result ≡ amp_at window.now k }
+// No sample of the chunk is over. No early way out: where the length is known, eight are compared at once.
+fn is_quiet(chunk: &[u16], threshold: u32) -> bool
+    ensures { IsTrue result → NoneOver threshold chunk.now }
 {
-    samples::amplitude(window[k - 1]) as u16
-}
-
-fn higher(a: u16, b: u16) -> u16
-    ensures { (a ≤ result) × (b ≤ result) }
-{
-    if a < b { b } else { a }
-}
-
-// None of the n samples after k is higher. No early way out: where n is known, eight are compared at once.
-fn high_of(window: &[u16], k: usize, n: usize) -> u16
-    requires { k + n ≤ length window.now }
-    ensures { NoneHigher window.now k n result }
-{
-    let mut high = 0;
-    let mut j = 0;
-    while j < n {
-        high = higher(high, amplitude_at(window, k + j + 1));
-        j += 1;
-    }
-    high
+    let high = chunk.iter().fold(
+        0,
+        |high: u16, sample| high.max(samples::amplitude(*sample) as u16),
+    );
+    u32::from(high) <= threshold
 }
 
 // How far the search from s may go on at once: past chunks of that size in which none is over. The last may overlap the one before it.
-fn quiet_to(window: &[u16], threshold: u32, s: usize, size: usize) -> usize
-    requires { (s ≤ length window.now) × (1 ≤ size) }
+fn quiet_to<const SIZE: usize>(window: &[u16], threshold: u32, s: usize) -> usize
+    requires { (s ≤ length window.now) × (1 ≤ SIZE) × (SIZE ≤ 64) }
     ensures { Passed (over window.now threshold) s (length window.now) result }
 {
-    let n = window.len();
-    if n < size {
+    let Some(last) = window.last_chunk::<SIZE>() else {
         return s;
-    }
-    let last = n - size;
-    let mut k = s;
-    while k < last {
-        if threshold < high_of(window, k, size) as u32 {
-            return k;
+    };
+    let (chunks, rest) = window[s..].as_chunks::<SIZE>();
+    for (i, chunk) in chunks.iter().enumerate() {
+        if !is_quiet(chunk, threshold) {
+            return s + i * SIZE;
         }
-        k += size;
     }
-    if threshold < high_of(window, last, size) as u32 {
-        return k;
+    if rest.is_empty() || is_quiet(last, threshold) {
+        window.len()
+    } else {
+        s + chunks.len() * SIZE
     }
-    n
 }
 
 // The first sample after s that is over: a few samples one by one, then large chunks, then small ones.
@@ -93,16 +72,17 @@ fn over_after(window: &[u16], threshold: u32, s: usize) -> usize
 {
     let n = window.len();
     let mut k = s;
+    // A `while`, since how far a turn goes on depends on what it finds.
     while FEW <= n - k {
         let found = first_over(window, threshold, k, FEW);
         if found != 0 {
             return found;
         }
-        let far = quiet_to(window, threshold, k + FEW, MANY);
+        let far = quiet_to::<MANY>(window, threshold, k + FEW);
         if far == n {
             return 0;
         }
-        k = quiet_to(window, threshold, far, FEW);
+        k = quiet_to::<FEW>(window, threshold, far);
     }
     first_over(window, threshold, k, n - k)
 }
@@ -119,12 +99,10 @@ fn next_tc(window: &[u16], threshold: u32, s: usize) -> usize
     requires { 1 ≤ s }
     ensures { result ≡ next_tc window.now threshold s }
 {
-    let mut k = s;
-    while k < window.len() {
+    for k in s..window.len() {
         if !is_over(window, threshold, k) {
             return over_after(window, threshold, k);
         }
-        k += 1;
     }
     0
 }
@@ -144,9 +122,5 @@ pub fn tc_from(window: &[u16], threshold: u32, s: usize) -> usize
 pub fn is_early(window: &[u16], threshold: u32) -> bool
     ensures { result ≡ early window.now threshold }
 {
-    if window.len() < 4 {
-        true
-    } else {
-        0 < first_over(window, threshold, 0, 4)
-    }
+    window.len() < 4 || 0 < first_over(window, threshold, 0, 4)
 }

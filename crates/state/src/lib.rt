@@ -10,7 +10,7 @@ use scalers::Scalers;
 use settings::Settings;
 
 // No block is open, a block is open, an event of it is open.
-#[derive(Clone, Copy)]
+#[derive(Clone, Copy, PartialEq, Eq)]
 pub enum Phase {
     Idle,
     Block,

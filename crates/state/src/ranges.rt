@@ -27,10 +27,7 @@ pub fn event_ok(number: u32, time: u64) -> bool
 pub fn head_words(parameters: bool) -> usize
     ensures { result ≡ cond parameters 2 1 }
 {
-    if parameters {
-        return 2;
-    }
-    1
+    if parameters { 2 } else { 1 }
 }
 
 // The words counted are within their range for the events closed. In 64 bits no state, forged or not, makes a sum wrap.
@@ -47,35 +44,26 @@ fn words_ok(parameters: bool, times: u32, closed: u32, words: usize) -> bool
 fn no_marks(posted: &[bool]) -> bool
     ensures { result ≡ no_marks posted.now }
 {
-    let mut clear = true;
-    let mut channel = 0;
-    while channel < posted.len() {
-        clear = clear & !posted[channel];
-        channel += 1;
-    }
-    clear
+    posted.iter().fold(true, |clear, mark| clear & !*mark)
 }
 
 // The numbers of an open block are within their ranges.
 fn in_block_ok(s: State) -> bool
     ensures { result ≡ in_block_ok s }
 {
-    let settings = s.settings;
-    let words = words_ok(settings.parameters, settings.times, s.closed, s.words);
-    block_ok(s.block, s.events) & words
+    block_ok(s.block, s.events)
+        & words_ok(s.settings.parameters, s.settings.times, s.closed, s.words)
 }
 
 // All but the settings is within the ranges of each phase: no block is open,
 pub fn idle_ok(s: State) -> bool
     ensures { result ≡ phase_ok Idle s }
 {
-    let posted = s.posted;
-    let clear = no_marks(&posted);
     (s.block == 0)
         & (s.events == 0)
         & (s.event == 0)
         & (s.time == 0)
-        & clear
+        & no_marks(&s.posted)
         & (s.closed == 0)
         & (s.words == 0)
 }
@@ -84,27 +72,21 @@ pub fn idle_ok(s: State) -> bool
 pub fn between_ok(s: State) -> bool
     ensures { result ≡ phase_ok Block s }
 {
-    let posted = s.posted;
-    let clear = no_marks(&posted);
-    let block = in_block_ok(s);
-    block & (s.closed <= s.events) & (s.event == 0) & (s.time == 0) & clear
+    in_block_ok(s) & (s.closed <= s.events) & (s.event == 0) & (s.time == 0) & no_marks(&s.posted)
 }
 
 // an event is open.
 pub fn during_ok(s: State) -> bool
     ensures { result ≡ phase_ok Event s }
 {
-    let block = in_block_ok(s);
-    let event = event_ok(s.event, s.time);
-    block & (s.closed < s.events) & event
+    in_block_ok(s) & (s.closed < s.events) & event_ok(s.event, s.time)
 }
 
 // The same of the state's own phase.
 fn phase_ok(s: State) -> bool
     ensures { result ≡ phase_ok s.phase s }
 {
-    let phase = s.phase;
-    match phase {
+    match s.phase {
         Phase::Idle => idle_ok(s),
         Phase::Block => between_ok(s),
         Phase::Event => during_ok(s),
@@ -115,19 +97,14 @@ fn phase_ok(s: State) -> bool
 pub fn common_ok(s: State) -> bool
     ensures { result ≡ common_ok s }
 {
-    let settings = s.settings;
-    let scalers = s.scalers;
-    let good = settings::in_range(settings);
-    good & ((scalers.part as usize) < GROUP)
+    settings::in_range(s.settings) & ((s.scalers.part as usize) < GROUP)
 }
 
 // The state keeps its ranges.
 pub fn state_ok(s: State) -> bool
     ensures { result ≡ state_ok s }
 {
-    let good = common_ok(s);
-    let phase = phase_ok(s);
-    good & phase
+    common_ok(s) & phase_ok(s)
 }
 
 pub fn is_idle(phase: Phase) -> bool

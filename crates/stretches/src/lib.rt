@@ -2,13 +2,17 @@
 // Each function looks at all the bytes it is lent: who wants a part of them lends that part, and nothing is tested for it.
 #![tactic(auto)]
 
-ghost use Rattle.std.specs.Prelude.{◌≡◌, ◌+◌, ◌*◌, ◌≤◌, length, get_or};
+ghost use Rattle.std.specs.Prelude.{◌≡◌, ◌+◌, ◌*◌, ◌≤◌, ℕ, Bool, length, get_or};
 ghost use Rattle.fields.specs.Bytes.{words_of_bytes};
 ghost use Rattle.raw.specs.Plain.{plain};
 ghost use Rattle.stretches.specs.Stretches.{turned_at, single, measure, leading, every};
 
+use measured::Measure;
+use plain::Plain;
+
 mod measured;
 mod plain;
+mod walks;
 
 // So many words are tested at once; of a long row so many.
 const CHUNK: usize = 8;
@@ -18,7 +22,18 @@ const LONG: usize = 32;
 // The flag of the second sample, bit 13, where the last two bytes are joined lowest first.
 const FLAG: u32 = 32;
 
+// A kind of word, known by its bits. The walks are compiled for each kind by itself.
+trait Kind {
+    ghost kind: { ℕ → Bool };
+
+    // Whether the word of that number is of the kind.
+    fn is_at(bytes: &[u8], k: usize) -> bool
+        requires { 4 * k + 4 ≤ length bytes.now }
+        ensures { result ≡ kind (get_or (words_of_bytes bytes.now) k 0) };
+}
+
 // The word of that number; past the end 0.
+#[tactic(auto, using(crate::specs::WordsLaws::word_none))]
 pub fn word_at(bytes: &[u8], k: usize) -> u32
     ensures { result ≡ get_or (words_of_bytes bytes.now) k 0 }
 {
@@ -29,6 +44,7 @@ pub fn word_at(bytes: &[u8], k: usize) -> u32
     }
 }
 
+#[tactic(auto, using(crate::specs::WordsLaws::word_is))]
 fn joined_at(bytes: &[u8], k: usize) -> u32
     requires { 4 * k + 4 ≤ length bytes.now }
     ensures { result ≡ get_or (words_of_bytes bytes.now) k 0 }
@@ -63,37 +79,39 @@ pub fn all_plain(bytes: &[u8]) -> bool
 {
     let n = bytes.len() / 4;
     if n < CHUNK {
-        return plain::chunks_plain(bytes, 1);
+        return walks::every::<Plain>(bytes, 1);
     }
     if n < LONG {
-        return plain::chunks_plain(bytes, CHUNK);
+        return walks::every::<Plain>(bytes, CHUNK);
     }
-    plain::chunks_plain(bytes, LONG)
+    walks::every::<Plain>(bytes, LONG)
 }
 
 // How many plain pairs come first. Most often they are few: those of the first chunk are asked one by one.
 pub fn few_plain(bytes: &[u8]) -> usize
     ensures { result ≡ leading plain (words_of_bytes bytes.now) }
 {
-    if bytes.len() / 4 < CHUNK {
-        return plain::plain_rest(bytes, 0);
+    let n = bytes.len() / 4;
+    if n < CHUNK {
+        return walks::ones::<Plain>(bytes, 0, n);
     }
-    let first = plain::first_plain(bytes);
+    let first = walks::ones::<Plain>(bytes, 0, CHUNK);
     if first < CHUNK {
         return first;
     }
-    plain::plain_rest(bytes, plain::plain_chunks(bytes, first))
+    walks::leading::<Plain>(bytes, first)
 }
 
 // How many measures come first. Most other words are known by the first test.
+#[tactic(auto, using(crate::specs::StretchesLaws::row_stop, crate::specs::StretchesLaws::row_end))]
 pub fn measured_count(bytes: &[u8]) -> usize
     ensures { result ≡ leading measure (words_of_bytes bytes.now) }
 {
     if bytes.len() < 4 {
         return 0;
     }
-    if !measured::measure_at(bytes, 0) {
+    if !Measure::is_at(bytes, 0) {
         return 0;
     }
-    measured::measured_rest(bytes, measured::measured_chunks(bytes, 1))
+    walks::leading::<Measure>(bytes, 1)
 }

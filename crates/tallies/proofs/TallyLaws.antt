@@ -8,7 +8,7 @@ use mathlib.Core.List.{List, [], ◌∷◌, ◌++◌, map, append-nil, append_as
 use native.Mathlib.Omega.{arith}
 use Rattle.std.proofs.Math.ListN.{length, take, drop, replicate, length-append, length-take, length-drop}
 use Rattle.ground.specs.Splice.{splice}
-use Rattle.refusals.specs.Refusal.{number_of, if_accepted}
+use Rattle.refusals.specs.Refusal.{told, if_accepted}
 use Rattle.samples.specs.Sample.{is_over}
 use Rattle.scalers.specs.declared.Scalers.{Scalers}
 use Rattle.scalers.specs.Scalers.{wrapped, frame_samples, nothing_counted, overs_of, rises_of, added_to, count_frame, frames_in, frames_of, count_frames, triggered, latched_now, reset_now}
@@ -20,7 +20,7 @@ use Rattle.event.specs.Event.{event_items}
 use Rattle.tail.specs.Tail.{scaler_items, tail_items}
 use Rattle.block.specs.Block.{block_items}
 use Rattle.refusing.specs.Tables.{set_up_number, open_block_number, open_event_number, post_number, closing_items, close_number, finish_number}
-use Rattle.writer.specs.declared.Answer.{Answer}
+use Rattle.writer.specs.Answer.{Answer}
 use Rattle.writer.specs.CallsLaws.{done, refused}
 use Rattle.closing.specs.Closing.{CloseSays}
 use Rattle.counting.specs.Counting.{count_number, with_frames, latch_number, reset_number}
@@ -173,7 +173,7 @@ abbrev Alike : State → State → Type 0
 Alike s t = (t.settings ≡ s.settings) × (t.scalers ≡ s.scalers)
 
 -- refused, it leaves the state
-stays : (n : ℕ) (new old : State) (r : Answer) → number_of r.refusal ≡ n → r.state ≡ if_accepted n new old → (number_of r.refusal ≡ 0 → ⊥)
+stays : (n : ℕ) (new old : State) (r : Answer) → told r.refusal ≡ n → r.state ≡ if_accepted n new old → (told r.refusal ≡ 0 → ⊥)
     → Alike old r.state
 stays n new old r e f ne =
     let s = f ∙ refused n new old (λ z. ne (e ∙ z)) in
@@ -211,40 +211,40 @@ record Told (now held : Moment) (s : State) : Type 0 where
   tally : s.scalers ≡ tally_of s.settings.thresholds now held
 
 -- an accepted call leaves the new state
-moves : {now held : Moment} (n : ℕ) (new old : State) (r : Answer) → number_of r.refusal ≡ n → r.state ≡ if_accepted n new old
-    → number_of r.refusal ≡ 0 → Told now held new → Told now held r.state
+moves : {now held : Moment} (n : ℕ) (new old : State) (r : Answer) → told r.refusal ≡ n → r.state ≡ if_accepted n new old
+    → told r.refusal ≡ 0 → Told now held new → Told now held r.state
 moves {now} {held} n new old r e f z h = subst (Told now held) (sym (f ∙ done new old (sym e ∙ z))) h
 
-told : {s : State} {now held : Moment} → Tallied s now held → Told now held s
+tells : {s : State} {now held : Moment} → Tallied s now held → Told now held s
 unfolding idle with_scalers with_event
-told (set_up settings r sixteen says z) =
+tells (set_up settings r sixteen says z) =
     moves (set_up_number settings) (idle settings nothing_counted) blank r says.refusal says.state z (record { sixteen = sixteen; tally = fresh_tally settings.thresholds })
-told (frames {s} {now} {held} run samples r says z) =
-    let h = told run in
+tells (frames {s} {now} {held} run samples r says z) =
+    let h = tells run in
     let ts = s.settings.thresholds in
     let counts = ap (λ (c : Scalers). count_frames ts c (frames_of samples)) h.tally ∙ samples_tally ts h.sixteen held now samples in
     moves (count_number s samples) (with_frames s samples) s r says.refusal says.state z (record { sixteen = h.sixteen; tally = counts })
-told (event {s} {now} {held} run number time r says z) =
-    let h = told run in
+tells (event {s} {now} {held} run number time r says z) =
+    let h = tells run in
     let counts = ap triggered h.tally ∙ event_tally s.settings.thresholds now held in
     moves (open_event_number s number time) (with_event s number time) s r says.refusal says.state z (record { sixteen = h.sixteen; tally = counts })
-told (latch {s} {now} {held} run r says z) =
-    let h = told run in
+tells (latch {s} {now} {held} run r says z) =
+    let h = tells run in
     let counts = ap latched_now h.tally ∙ latch_tally s.settings.thresholds now held in
     moves (latch_number s) (with_scalers s (latched_now s.scalers)) s r says.refusal says.state z (record { sixteen = h.sixteen; tally = counts })
-told (reset {s} {now} {held} run r says z) =
-    let h = told run in
+tells (reset {s} {now} {held} run r says z) =
+    let h = tells run in
     let counts = ap reset_now h.tally ∙ reset_tally s.settings.thresholds now held in
     moves (reset_number s) (with_scalers s (reset_now s.scalers)) s r says.refusal says.state z (record { sixteen = h.sixteen; tally = counts })
-told (other {s} {t} {now} {held} run call) =
-    let h = told run in
+tells (other {s} {t} {now} {held} run call) =
+    let h = tells run in
     let a = uncounted call in
     let thresholds = ap (λ (c : Settings). c.thresholds) a.0 in
     record { sixteen = ap length thresholds ∙ h.sixteen; tally = a.1 ∙ h.tally ∙ ap (λ (ts : List ℕ). tally_of ts now held) (sym thresholds) }
 
 -- after any calls since a set up all that is counted is the tally of the frames fed and the events opened
 pub tallies : {s : State} {now held : Moment} → Tallied s now held → s.scalers ≡ tally_of s.settings.thresholds now held
-tallies run = (told run).tally
+tallies run = (tells run).tally
 
 -- ---- what follows
 
@@ -268,7 +268,7 @@ latched_tally run = ap (λ (n : Scalers). n.latched) (tallies run)
 
 -- so an event closed on request ends with type 12 and the tally of the last latch
 pub event_ends : {s : State} {now held : Moment} → Tallied s now held → (store words : List ℕ) (r : Answer) (words' : List ℕ) → CloseSays s store words true r words'
-    → number_of r.refusal ≡ 0
+    → told r.refusal ≡ 0
     → words' ≡ splice words s.words (words_of (event_items s.settings s.event s.time s.posted store ++ scaler_items (eighteen_at s.settings.thresholds held)))
 unfolding tail_items
 event_ends {s} run store words r words' says z =

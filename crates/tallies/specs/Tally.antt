@@ -1,13 +1,13 @@
 -- What a state holds of its counts after any calls since a set up, said over all the frames fed: document 02, "Scaler words". Assumes nothing.
 use Rattle.std.specs.Prelude.{ℕ, suc, ◌+◌, ◌/◌, ◌%◌, ◌^◌, ◌≡◌, Bool, false, not, cond, ◌&&◌, List, [], ◌∷◌, ◌++◌, map, length, get_or}
-use Rattle.refusals.specs.Refusal.{number_of}
+use Rattle.refusals.specs.Refusal.{told}
 use Rattle.samples.specs.Sample.{is_over}
 use Rattle.settings.specs.declared.Settings.{Settings}
 use Rattle.scalers.specs.declared.Scalers.{Scalers}
 use Rattle.scalers.specs.Scalers.{frames_of}
 use Rattle.state.specs.declared.State.{State}
-use Rattle.writer.specs.declared.Answer.{Answer}
-use Rattle.writer.specs.declared.Finished.{Finished}
+use Rattle.writer.specs.Answer.{Answer}
+use Rattle.writer.specs.Answer.{Finished}
 use Rattle.writer.specs.Calls.{SetUpSays, OpenBlockSays, OpenEventSays, PostSays, FinishSays}
 use Rattle.closing.specs.Closing.{CloseSays}
 use Rattle.counting.specs.Counting.{CountSays, LatchSays, ResetSays}
@@ -62,23 +62,23 @@ pub data Uncounted : State → State → Type 0 where
   close : {s : State} (store words : List ℕ) (asked : Bool) (r : Answer) (words' : List ℕ) → CloseSays s store words asked r words' → Uncounted s r.state
   finish : {s : State} (words : List ℕ) (r : Finished) (words' : List ℕ) → FinishSays s words r words' → Uncounted s r.state
   -- frames, an event, a latch or a reset refused
-  no_frames : {s : State} (samples : List ℕ) (r : Answer) → CountSays s samples r → (number_of r.refusal ≡ 0 → ⊥) → Uncounted s r.state
-  no_event : {s : State} (number time : ℕ) (r : Answer) → OpenEventSays s number time r → (number_of r.refusal ≡ 0 → ⊥) → Uncounted s r.state
-  no_latch : {s : State} (r : Answer) → LatchSays s r → (number_of r.refusal ≡ 0 → ⊥) → Uncounted s r.state
-  no_reset : {s : State} (r : Answer) → ResetSays s r → (number_of r.refusal ≡ 0 → ⊥) → Uncounted s r.state
+  no_frames : {s : State} (samples : List ℕ) (r : Answer) → CountSays s samples r → (told r.refusal ≡ 0 → ⊥) → Uncounted s r.state
+  no_event : {s : State} (number time : ℕ) (r : Answer) → OpenEventSays s number time r → (told r.refusal ≡ 0 → ⊥) → Uncounted s r.state
+  no_latch : {s : State} (r : Answer) → LatchSays s r → (told r.refusal ≡ 0 → ⊥) → Uncounted s r.state
+  no_reset : {s : State} (r : Answer) → ResetSays s r → (told r.refusal ≡ 0 → ⊥) → Uncounted s r.state
 
 -- calls in any order since an accepted set up, each as its contract says and from the state that the last one left; with it the moment reached, and that of
 -- the last latch
 pub data Tallied : State → Moment → Moment → Type 0 where
   -- of as many thresholds as the type of settings has; "the latched ones, which are zero before any latch"
-  set_up : (settings : Settings) (r : Answer) → length settings.thresholds ≡ 16 → SetUpSays settings r → number_of r.refusal ≡ 0 → Tallied r.state fresh fresh
+  set_up : (settings : Settings) (r : Answer) → length settings.thresholds ≡ 16 → SetUpSays settings r → told r.refusal ≡ 0 → Tallied r.state fresh fresh
   -- accepted
-  frames : {s : State} {now held : Moment} → Tallied s now held → (samples : List ℕ) (r : Answer) → CountSays s samples r → number_of r.refusal ≡ 0
+  frames : {s : State} {now held : Moment} → Tallied s now held → (samples : List ℕ) (r : Answer) → CountSays s samples r → told r.refusal ≡ 0
       → Tallied r.state (fed now (frames_of samples)) held
-  event : {s : State} {now held : Moment} → Tallied s now held → (number time : ℕ) (r : Answer) → OpenEventSays s number time r → number_of r.refusal ≡ 0
+  event : {s : State} {now held : Moment} → Tallied s now held → (number time : ℕ) (r : Answer) → OpenEventSays s number time r → told r.refusal ≡ 0
       → Tallied r.state (one_more now) held
-  latch : {s : State} {now held : Moment} → Tallied s now held → (r : Answer) → LatchSays s r → number_of r.refusal ≡ 0 → Tallied r.state now now
-  reset : {s : State} {now held : Moment} → Tallied s now held → (r : Answer) → ResetSays s r → number_of r.refusal ≡ 0 → Tallied r.state (anew now) held
+  latch : {s : State} {now held : Moment} → Tallied s now held → (r : Answer) → LatchSays s r → told r.refusal ≡ 0 → Tallied r.state now now
+  reset : {s : State} {now held : Moment} → Tallied s now held → (r : Answer) → ResetSays s r → told r.refusal ≡ 0 → Tallied r.state (anew now) held
   -- any other, and any refused
   other : {s t : State} {now held : Moment} → Tallied s now held → Uncounted s t → Tallied t now held
 

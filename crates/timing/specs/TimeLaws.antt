@@ -1,10 +1,9 @@
 -- Laws of the time's definitions, as the code meets them: a sample more, a rule of the time. Assumes nothing.
-use Rattle.std.specs.Prelude.{ℕ, ◌+◌, ◌-◌, ◌*◌, ◌/◌, ◌≤◌, ◌<◌, ◌≡◌, true, false, List, ltb, length}
+use Rattle.std.specs.Prelude.{ℕ, ◌+◌, ◌-◌, ◌*◌, ◌/◌, ◌≤◌, ◌<◌, ◌≡◌, refl, true, false, Some, None, List, ltb, length}
 use Rattle.std.proofs.Common.{◌∙◌, arith}
 use borrow.Author.Tests.{lt-ltb, le-ltb, le-leb, lt-leb, ne_eqb}
 use Rattle.search.specs.Search.{amp_at, early}
 use Rattle.timing.specs.declared.Rule.TheVariants.{Early, Late, Flat, Edge}
-use Rattle.timing.specs.declared.Base.{Base}
 use Rattle.timing.specs.declared.Time.{Time}
 use Rattle.timing.specs.Time.{vmin, falls, first_fall, vmid, at_most, n1, fine_of, tc_only, edge_time, after_fall, time_at}
 use Rattle.timing.specs.ByBase.{base_of, edge_from, time_from, in_window}
@@ -52,33 +51,32 @@ module _ (w : List ℕ) (t tc low : ℕ) (calm : early w t ≡ false) (hl : low 
     time_edge z = rw (calm, le-ltb (length w - tc) 5 room, ← hk, ne_eqb k 0 z, hl)
 
 -- the window's own base
-pub base_early : (w : List ℕ) (t : ℕ) → early w t ≡ true → ◌≡◌ {A = Base} (record { early = true; low = 0 }) (base_of w t)
+pub base_early : (w : List ℕ) (t : ℕ) → early w t ≡ true → base_of w t ≡ None
 unfolding base_of
 base_early w t h = rw h
 
-pub base_low : (w : List ℕ) (t low : ℕ) → early w t ≡ false → low ≡ vmin w → ◌≡◌ {A = Base} (record { early = false; low = low }) (base_of w t)
+pub base_low : (w : List ℕ) (t : ℕ) → early w t ≡ false → base_of w t ≡ Some (vmin w)
 unfolding base_of
-base_low w t low h e = rw (h, e)
+base_low w t h = rw h
 
 -- the same by any base
-module _ (w : List ℕ) (b : Base) (tc : ℕ) where
-  pub from_early : b.early ≡ true → time_from w b tc ≡ tc_only tc 0 Early
+pub from_early : (w : List ℕ) (tc : ℕ) → time_from w None tc ≡ tc_only tc 0 Early
+unfolding time_from
+from_early w tc = refl
+
+module _ (w : List ℕ) (low tc : ℕ) where
+  pub from_late : length w - tc < 5 → time_from w (Some low) tc ≡ tc_only tc low Late
   unfolding time_from
-  from_early h = rw h
+  from_late l = rw (lt-ltb (length w - tc) 5 l)
 
-  module _ (calm : b.early ≡ false) where
-    pub from_late : length w - tc < 5 → time_from w b tc ≡ tc_only tc b.low Late
+  module _ (k : ℕ) (room : 5 ≤ length w - tc) (hk : k ≡ first_fall w tc) where
+    pub from_flat : k ≡ 0 → time_from w (Some low) tc ≡ tc_only tc low Flat
     unfolding time_from
-    from_late l = rw (calm, lt-ltb (length w - tc) 5 l)
+    from_flat z = rw (le-ltb (length w - tc) 5 room, ← hk, z)
 
-    module _ (k : ℕ) (room : 5 ≤ length w - tc) (hk : k ≡ first_fall w tc) where
-      pub from_flat : k ≡ 0 → time_from w b tc ≡ tc_only tc b.low Flat
-      unfolding time_from
-      from_flat z = rw (calm, le-ltb (length w - tc) 5 room, ← hk, z)
-
-      pub from_edge : (k ≡ 0 → ⊥) → time_from w b tc ≡ edge_from w b.low tc (k - 1)
-      unfolding time_from
-      from_edge z = rw (calm, le-ltb (length w - tc) 5 room, ← hk, ne_eqb k 0 z)
+    pub from_edge : (k ≡ 0 → ⊥) → time_from w (Some low) tc ≡ edge_from w low tc (k - 1)
+    unfolding time_from
+    from_edge z = rw (le-ltb (length w - tc) 5 room, ← hk, ne_eqb k 0 z)
 
 -- the time from the numbers that the code computes one by one
 pub edge_is : (w : List ℕ) (low peak v mid n a b : ℕ) → v ≡ amp_at w peak → mid ≡ (v + low) / 2 → n ≡ n1 w mid peak

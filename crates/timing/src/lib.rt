@@ -27,22 +27,17 @@ pub struct Time {
     pub rule: Rule,
 }
 
-// What the first four samples say of every time in the window: that rule 1 holds, or VMIN.
-#[derive(Clone, Copy)]
-pub struct Base {
-    pub early: bool,
-    pub low: u32,
-}
-
-// The paper's number of a rule.
-pub fn rule_number(rule: Rule) -> u32
-    ensures { result ≡ rule_number rule }
-{
-    match rule {
-        Rule::Early => 1,
-        Rule::Late => 2,
-        Rule::Flat => 3,
-        Rule::Edge => 4,
+impl Rule {
+    // The paper's number of it.
+    pub fn number(self) -> u32
+        ensures { result ≡ rule_number self }
+    {
+        match self {
+            Rule::Early => 1,
+            Rule::Late => 2,
+            Rule::Flat => 3,
+            Rule::Edge => 4,
+        }
     }
 }
 
@@ -66,18 +61,15 @@ fn vmin_of(window: &[u16]) -> u32
     (first + second + third + fourth) / 4
 }
 
-// It is the same for all pulses of a window.
-pub fn base_of(window: &[u16], threshold: u32) -> Base
+// The base of every time in the window, whatever the pulse: VMIN, or None where rule 1 holds.
+pub fn base_of(window: &[u16], threshold: u32) -> Option<u32>
     ensures { result ≡ base_of window.now threshold }
 {
     if search::is_early(window, threshold) {
-        return Base {
-            early: true,
-            low: 0,
-        };
+        return None;
     }
     let low = vmin_of(window);
-    Base { early: false, low }
+    Some(low)
 }
 
 // The first sample after TC that is lower than its neighbour. The neighbour is kept, so each sample is read once.
@@ -85,13 +77,11 @@ fn first_fall(window: &[u16], tc: usize) -> usize
     requires { (1 ≤ tc) × (tc ≤ length window.now) }
     ensures { result ≡ first_fall window.now tc }
 {
-    let mut k = tc;
-    let mut before = amp_at(window, k);
-    while k < window.len() {
-        k += 1;
-        let here = amp_at(window, k);
+    let mut before = amp_at(window, tc);
+    for k in tc..window.len() {
+        let here = amp_at(window, k + 1);
         if here < before {
-            return k;
+            return k + 1;
         }
         before = here;
     }
@@ -103,9 +93,7 @@ fn n1_of(window: &[u16], vmid: u32, peak: usize) -> usize
     requires { peak ≤ length window.now }
     ensures { result ≡ n1 window.now vmid peak }
 {
-    let mut k = peak;
-    while 1 < k {
-        k -= 1;
+    for k in (1..peak).rev() {
         if amp_at(window, k) <= vmid {
             return k;
         }
@@ -152,25 +140,25 @@ fn edge_time(window: &[u16], low: u32, tc: usize, peak: usize) -> Time
 }
 
 // The high-resolution time of the pulse at tc, a sample of the window, by a base.
-fn time_in(window: &[u16], base: Base, tc: usize) -> Time
+fn time_in(window: &[u16], base: Option<u32>, tc: usize) -> Time
     requires { (1 ≤ tc) × (tc ≤ length window.now) }
     ensures { result ≡ time_from window.now base tc }
 {
-    if base.early {
+    let Some(low) = base else {
         return tc_only(tc, 0, Rule::Early);
-    }
+    };
     if window.len() - tc < 5 {
-        return tc_only(tc, base.low, Rule::Late);
+        return tc_only(tc, low, Rule::Late);
     }
     let fall = first_fall(window, tc);
     if fall == 0 {
-        return tc_only(tc, base.low, Rule::Flat);
+        return tc_only(tc, low, Rule::Flat);
     }
-    edge_time(window, base.low, tc, fall - 1)
+    edge_time(window, low, tc, fall - 1)
 }
 
 // The same for any tc: where the window has no such sample, as in rule 1.
-pub fn time_from(window: &[u16], base: Base, tc: usize) -> Time
+pub fn time_from(window: &[u16], base: Option<u32>, tc: usize) -> Time
     ensures { result ≡ cond (in_window window.now tc) (time_from window.now base tc) (tc_only tc 0 Early) }
 {
     if (1 <= tc) & (tc <= window.len()) {

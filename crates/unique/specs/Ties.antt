@@ -5,14 +5,16 @@ use contract.Lifetimes.{Lfts}
 use Rattle.std.specs.Borrow.{Bor, MutBor}
 use Rattle.settings.specs.declared.Settings.{Settings}
 use Rattle.find.proofs as find
-use Rattle.find.specs.declared.FindAnswer.{FindAnswer}
+use Rattle.std.specs.declared.result.Result.{Result}
+use Rattle.refusals.specs.declared.Refusal.{Refusal}
+use Rattle.refusals.specs.Refusal.{Outcome}
+use Rattle.finder.specs.declared.Pulses.{Pulses}
 use Rattle.find.specs.Call.{FindSays}
 use Rattle.writer.proofs as writer
 use Rattle.closing.proofs as closing
 use Rattle.counting.proofs as counting
 use Rattle.state.specs.declared.State.{State}
-use Rattle.writer.specs.declared.Answer.{Answer}
-use Rattle.writer.specs.declared.Finished.{Finished}
+use Rattle.writer.specs.Answer.{answer, made, finished}
 use Rattle.writer.specs.Calls.{SetUpSays, OpenBlockSays, OpenEventSays, PostSays, FinishSays}
 use Rattle.closing.specs.Closing.{CloseSays}
 use Rattle.counting.specs.Counting.{CountSays, LatchSays, ResetSays}
@@ -44,9 +46,8 @@ use Rattle.hostcount.specs.Face.{CountFace, LatchFace, ResetFace}
 use Rattle.hostfind.specs.Found.{FindFace}
 use Rattle.reading.specs.Reading.{NextFace}
 use Rattle.listing.proofs as listing
-use Rattle.listing.specs.declared.Listed.{Listed}
 use Rattle.listing.specs.Listing.{listing_of, long_listing_of}
-use Rattle.listing.specs.Says.{ListSays, LongSays, LengthSays}
+use Rattle.listing.specs.Says.{Listed, ListSays, LongSays, LengthSays}
 
 -- a reference to lent words, samples, bytes or numbers: `now` are those it refers to
 abbrev pub Reference : Type 0
@@ -58,41 +59,44 @@ Lent = MutBor (List ℕ)
 
 -- ---- the calls
 
-pub set_up_tied : (settings : Settings) (r : Answer)
-    → writer.set_up.Reads.Learnt tt (settings, tt) r (settings, tt) → SetUpSays settings r
+pub set_up_tied : (settings : Settings) (r : Result State Refusal)
+    → writer.set_up.Reads.Learnt tt (settings, tt) r (settings, tt) → SetUpSays settings (made r)
 set_up_tied settings r p = p
 
-pub open_block_tied : (κs : Lfts 1) (state : State) (words words' : Lent) (number events : ℕ) (r : Answer)
-    → writer.open_block.Reads.Learnt κs (state, (words, (number, (events, tt)))) r (state, (words', (number, (events, tt)))) → OpenBlockSays state words.now number events r words'.now
-open_block_tied κs state words words' number events r p = p
+pub open_block_tied : (κs : Lfts 2) (state state' : MutBor State) (words words' : Lent) (number events : ℕ) (r : Outcome)
+    → writer.open_block.Reads.Learnt κs (state, (words, (number, (events, tt)))) r (state', (words', (number, (events, tt))))
+    → OpenBlockSays state.now words.now number events (answer r state'.now) words'.now
+open_block_tied κs state state' words words' number events r p = p
 
-pub open_event_tied : (state : State) (number time : ℕ) (r : Answer)
-    → writer.open_event.Reads.Learnt tt (state, (number, (time, tt))) r (state, (number, (time, tt))) → OpenEventSays state number time r
-open_event_tied state number time r p = p
+pub open_event_tied : (κs : Lfts 1) (state state' : MutBor State) (number time : ℕ) (r : Outcome)
+    → writer.open_event.Reads.Learnt κs (state, (number, (time, tt))) r (state', (number, (time, tt))) → OpenEventSays state.now number time (answer r state'.now)
+open_event_tied κs state state' number time r p = p
 
-pub post_tied : (κs : Lfts 2) (state : State) (store store' : Lent) (channel : ℕ) (window : Reference) (r : Answer)
-    → writer.post.Reads.Learnt κs (state, (store, (channel, (window, tt)))) r (state, (store', (channel, (window, tt)))) → PostSays state store.now channel window.now r store'.now
-post_tied κs state store store' channel window r p = p
+pub post_tied : (κs : Lfts 3) (state state' : MutBor State) (store store' : Lent) (channel : ℕ) (window : Reference) (r : Outcome)
+    → writer.post.Reads.Learnt κs (state, (store, (channel, (window, tt)))) r (state', (store', (channel, (window, tt))))
+    → PostSays state.now store.now channel window.now (answer r state'.now) store'.now
+post_tied κs state state' store store' channel window r p = p
 
-pub close_tied : (κs : Lfts 2) (state : State) (store : Reference) (words words' : Lent) (asked : Bool) (r : Answer)
-    → closing.close.Reads.Learnt κs (state, (store, (words, (asked, tt)))) r (state, (store, (words', (asked, tt)))) → CloseSays state store.now words.now asked r words'.now
-close_tied κs state store words words' asked r p = p
+pub close_tied : (κs : Lfts 3) (state state' : MutBor State) (store : Reference) (words words' : Lent) (asked : Bool) (r : Outcome)
+    → closing.close.Reads.Learnt κs (state, (store, (words, (asked, tt)))) r (state', (store, (words', (asked, tt))))
+    → CloseSays state.now store.now words.now asked (answer r state'.now) words'.now
+close_tied κs state state' store words words' asked r p = p
 
-pub finish_tied : (κs : Lfts 1) (state : State) (words words' : Lent) (r : Finished)
-    → writer.finish.Reads.Learnt κs (state, (words, tt)) r (state, (words', tt)) → FinishSays state words.now r words'.now
-finish_tied κs state words words' r p = p
+pub finish_tied : (κs : Lfts 2) (state state' : MutBor State) (words words' : Lent) (r : Result ℕ Refusal)
+    → writer.finish.Reads.Learnt κs (state, (words, tt)) r (state', (words', tt)) → FinishSays state.now words.now (finished r state'.now) words'.now
+finish_tied κs state state' words words' r p = p
 
-pub count_tied : (κs : Lfts 1) (state : State) (samples : Reference) (r : Answer)
-    → counting.count.Reads.Learnt κs (state, (samples, tt)) r (state, (samples, tt)) → CountSays state samples.now r
-count_tied κs state samples r p = p
+pub count_tied : (κs : Lfts 2) (state state' : MutBor State) (samples : Reference) (r : Outcome)
+    → counting.count.Reads.Learnt κs (state, (samples, tt)) r (state', (samples, tt)) → CountSays state.now samples.now (answer r state'.now)
+count_tied κs state state' samples r p = p
 
-pub latch_tied : (state : State) (r : Answer) → counting.latch.Reads.Learnt tt (state, tt) r (state, tt) → LatchSays state r
-latch_tied state r p = p
+pub latch_tied : (κs : Lfts 1) (state state' : MutBor State) (r : Outcome) → counting.latch.Reads.Learnt κs (state, tt) r (state', tt) → LatchSays state.now (answer r state'.now)
+latch_tied κs state state' r p = p
 
-pub reset_tied : (state : State) (r : Answer) → counting.reset.Reads.Learnt tt (state, tt) r (state, tt) → ResetSays state r
-reset_tied state r p = p
+pub reset_tied : (κs : Lfts 1) (state state' : MutBor State) (r : Outcome) → counting.reset.Reads.Learnt κs (state, tt) r (state', tt) → ResetSays state.now (answer r state'.now)
+reset_tied κs state state' r p = p
 
-pub find_tied : (κs : Lfts 1) (settings : Settings) (channel : ℕ) (window : Reference) (r : FindAnswer)
+pub find_tied : (κs : Lfts 1) (settings : Settings) (channel : ℕ) (window : Reference) (r : Result Pulses Refusal)
     → find.find.Reads.Learnt κs (settings, (channel, (window, tt))) r (settings, (channel, (window, tt))) → FindSays settings channel window.now r
 find_tied κs settings channel window r p = p
 

@@ -11,36 +11,82 @@ use Rattle.fields.proofs as fields
 use Rattle.fields.specs.contracts as fields_contracts
 use Rattle.framing.proofs.block_header.BlockHeader as BlockHeader
 use Rattle.framing.specs.contracts.block_header.BlockHeader as BlockHeaderContracts
-use Rattle.framing.proofs.empty.ModuleEmpty as ModuleEmpty
-use Rattle.framing.specs.contracts.empty.ModuleEmpty as ModuleEmptyContracts
-use Rattle.framing.proofs.event_header.EventHeader as EventHeader
-use Rattle.framing.specs.contracts.event_header.EventHeader as EventHeaderContracts
-use Rattle.framing.proofs.filler.Filler as Filler
-use Rattle.framing.specs.contracts.filler.Filler as FillerContracts
+use Rattle.framing.proofs.block_header.BlockHeaderRecord as BlockHeaderRecord
+use Rattle.framing.specs.contracts.block_header.BlockHeaderRecord as BlockHeaderRecordContracts
+use Rattle.framing.proofs.block_header.BlockHeaderDefining as BlockHeaderDefining
+use Rattle.framing.specs.contracts.block_header.BlockHeaderDefining as BlockHeaderDefiningContracts
+use Rattle.framing.proofs.empty.ModuleEmptyRecord as ModuleEmptyRecord
+use Rattle.framing.specs.contracts.empty.ModuleEmptyRecord as ModuleEmptyRecordContracts
+use Rattle.framing.proofs.empty.ModuleEmptyDefining as ModuleEmptyDefining
+use Rattle.framing.specs.contracts.empty.ModuleEmptyDefining as ModuleEmptyDefiningContracts
+use Rattle.framing.proofs.event_header.EventHeaderRecord as EventHeaderRecord
+use Rattle.framing.specs.contracts.event_header.EventHeaderRecord as EventHeaderRecordContracts
+use Rattle.framing.proofs.event_header.EventHeaderDefining as EventHeaderDefining
+use Rattle.framing.specs.contracts.event_header.EventHeaderDefining as EventHeaderDefiningContracts
+use Rattle.framing.proofs.filler.FillerRecord as FillerRecord
+use Rattle.framing.specs.contracts.filler.FillerRecord as FillerRecordContracts
+use Rattle.framing.proofs.filler.FillerDefining as FillerDefining
+use Rattle.framing.specs.contracts.filler.FillerDefining as FillerDefiningContracts
 use Rattle.framing.proofs.parameters.Parameters as Parameters
 use Rattle.framing.specs.contracts.parameters.Parameters as ParametersContracts
-use Rattle.framing.proofs.scaler.ScalerWord as ScalerWord
-use Rattle.framing.specs.contracts.scaler.ScalerWord as ScalerWordContracts
+use Rattle.framing.proofs.parameters.ParametersRecord as ParametersRecord
+use Rattle.framing.specs.contracts.parameters.ParametersRecord as ParametersRecordContracts
+use Rattle.framing.proofs.parameters.ParametersContinuation as ParametersContinuation
+use Rattle.framing.specs.contracts.parameters.ParametersContinuation as ParametersContinuationContracts
+use Rattle.framing.proofs.scaler.ScalerWordRecord as ScalerWordRecord
+use Rattle.framing.specs.contracts.scaler.ScalerWordRecord as ScalerWordRecordContracts
 use Rattle.framing.proofs.scalers.ScalerHeader as ScalerHeader
 use Rattle.framing.specs.contracts.scalers.ScalerHeader as ScalerHeaderContracts
-use Rattle.framing.proofs.trailer.BlockTrailer as BlockTrailer
-use Rattle.framing.specs.contracts.trailer.BlockTrailer as BlockTrailerContracts
-use Rattle.framing.proofs.trigger_time.TriggerTime as TriggerTime
-use Rattle.framing.specs.contracts.trigger_time.TriggerTime as TriggerTimeContracts
+use Rattle.framing.proofs.scalers.ScalerHeaderRecord as ScalerHeaderRecord
+use Rattle.framing.specs.contracts.scalers.ScalerHeaderRecord as ScalerHeaderRecordContracts
+use Rattle.framing.proofs.scalers.ScalerHeaderDefining as ScalerHeaderDefining
+use Rattle.framing.specs.contracts.scalers.ScalerHeaderDefining as ScalerHeaderDefiningContracts
+use Rattle.framing.proofs.trailer.BlockTrailerRecord as BlockTrailerRecord
+use Rattle.framing.specs.contracts.trailer.BlockTrailerRecord as BlockTrailerRecordContracts
+use Rattle.framing.proofs.trailer.BlockTrailerDefining as BlockTrailerDefining
+use Rattle.framing.specs.contracts.trailer.BlockTrailerDefining as BlockTrailerDefiningContracts
+use Rattle.framing.proofs.trigger_time.TriggerTimeRecord as TriggerTimeRecord
+use Rattle.framing.specs.contracts.trigger_time.TriggerTimeRecord as TriggerTimeRecordContracts
+use Rattle.framing.proofs.trigger_time.TriggerTimeDefining as TriggerTimeDefining
+use Rattle.framing.specs.contracts.trigger_time.TriggerTimeDefining as TriggerTimeDefiningContracts
 use Rattle.framing.proofs.trigger_time_high.TriggerTimeHigh as TriggerTimeHigh
 use Rattle.framing.specs.contracts.trigger_time_high.TriggerTimeHigh as TriggerTimeHighContracts
+use Rattle.framing.proofs.trigger_time_high.TriggerTimeHighRecord as TriggerTimeHighRecord
+use Rattle.framing.specs.contracts.trigger_time_high.TriggerTimeHighRecord as TriggerTimeHighRecordContracts
+use Rattle.framing.proofs.trigger_time_high.TriggerTimeHighContinuation as TriggerTimeHighContinuation
+use Rattle.framing.specs.contracts.trigger_time_high.TriggerTimeHighContinuation as TriggerTimeHighContinuationContracts
 use Rattle.raw.proofs.pair.SamplePair as SamplePair
 use Rattle.raw.specs.contracts.pair.SamplePair as SamplePairContracts
+use Rattle.raw.proofs.pair.SamplePairRecord as SamplePairRecord
+use Rattle.raw.specs.contracts.pair.SamplePairRecord as SamplePairRecordContracts
+use Rattle.raw.proofs.pair.SamplePairContinuation as SamplePairContinuation
+use Rattle.raw.specs.contracts.pair.SamplePairContinuation as SamplePairContinuationContracts
 use Rattle.raw.proofs.pulse_raw.PulseRaw as PulseRaw
 use Rattle.raw.specs.contracts.pulse_raw.PulseRaw as PulseRawContracts
+use Rattle.raw.proofs.pulse_raw.PulseRawRecord as PulseRawRecord
+use Rattle.raw.specs.contracts.pulse_raw.PulseRawRecord as PulseRawRecordContracts
+use Rattle.raw.proofs.pulse_raw.PulseRawDefining as PulseRawDefining
+use Rattle.raw.specs.contracts.pulse_raw.PulseRawDefining as PulseRawDefiningContracts
 use Rattle.raw.proofs.window.WindowRaw as WindowRaw
 use Rattle.raw.specs.contracts.window.WindowRaw as WindowRawContracts
-use Rattle.measures.proofs.integral.PulseIntegral as PulseIntegral
-use Rattle.measures.specs.contracts.integral.PulseIntegral as PulseIntegralContracts
-use Rattle.measures.proofs.pedestal.PulsePedestal as PulsePedestal
-use Rattle.measures.specs.contracts.pedestal.PulsePedestal as PulsePedestalContracts
+use Rattle.raw.proofs.window.WindowRawRecord as WindowRawRecord
+use Rattle.raw.specs.contracts.window.WindowRawRecord as WindowRawRecordContracts
+use Rattle.raw.proofs.window.WindowRawDefining as WindowRawDefining
+use Rattle.raw.specs.contracts.window.WindowRawDefining as WindowRawDefiningContracts
+use Rattle.measures.proofs.integral.PulseIntegralRecord as PulseIntegralRecord
+use Rattle.measures.specs.contracts.integral.PulseIntegralRecord as PulseIntegralRecordContracts
+use Rattle.measures.proofs.integral.PulseIntegralDefining as PulseIntegralDefining
+use Rattle.measures.specs.contracts.integral.PulseIntegralDefining as PulseIntegralDefiningContracts
+use Rattle.measures.proofs.pedestal.PulsePedestalRecord as PulsePedestalRecord
+use Rattle.measures.specs.contracts.pedestal.PulsePedestalRecord as PulsePedestalRecordContracts
+use Rattle.measures.proofs.pedestal.PulsePedestalDefining as PulsePedestalDefining
+use Rattle.measures.specs.contracts.pedestal.PulsePedestalDefining as PulsePedestalDefiningContracts
 use Rattle.measures.proofs.time.PulseTime as PulseTime
 use Rattle.measures.specs.contracts.time.PulseTime as PulseTimeContracts
+use Rattle.measures.proofs.time.PulseTimeRecord as PulseTimeRecord
+use Rattle.measures.specs.contracts.time.PulseTimeRecord as PulseTimeRecordContracts
+use Rattle.measures.proofs.time.PulseTimeDefining as PulseTimeDefining
+use Rattle.measures.specs.contracts.time.PulseTimeDefining as PulseTimeDefiningContracts
 use Rattle.types.proofs as types
 use Rattle.types.specs.contracts as types_contracts
 use Rattle.items.proofs as items
@@ -93,6 +139,7 @@ use Rattle.counting.specs.contracts as counting_contracts
 use Rattle.counting.specs.CountingLaws as counted
 use Rattle.closing.specs.ClosingLaws as closed
 use Rattle.writer.specs.UniqueLaws as W
+use Rattle.writer.specs.AnswerLaws.{made_inj, finished_inj}
 use Rattle.scan.proofs as scan
 use Rattle.scan.specs.contracts as scan_contracts
 use Rattle.meaning.proofs as meaning
@@ -215,171 +262,171 @@ to_bytes_unique κs a r s u v p q = by_equation p q
 pub block_header_within_unique : Unique BlockHeaderContracts.within.ended BlockHeader.within.Reads.Learnt
 block_header_within_unique κs a r s u v p q = by_equation p q
 
-pub block_header_fits_unique : Unique BlockHeaderContracts.fits.ended BlockHeader.fits.Reads.Learnt
+pub block_header_fits_unique : Unique BlockHeaderRecordContracts.fits.ended BlockHeaderRecord.fits.Reads.Learnt
 block_header_fits_unique κs a r s u v p q = by_equation p q
 
-pub block_header_build_unique : Unique BlockHeaderContracts.build.ended BlockHeader.build.Reads.Learnt
+pub block_header_build_unique : Unique BlockHeaderRecordContracts.build.ended BlockHeaderRecord.build.Reads.Learnt
 block_header_build_unique κs a r s u v p q = by_equation p q
 
-pub block_header_take_apart_unique : Unique BlockHeaderContracts.take_apart.ended BlockHeader.take_apart.Reads.Learnt
+pub block_header_take_apart_unique : Unique BlockHeaderRecordContracts.take_apart.ended BlockHeaderRecord.take_apart.Reads.Learnt
 block_header_take_apart_unique κs a r s u v p q = by_equation p q
 
-pub block_header_is_unique : Unique BlockHeaderContracts.is.ended BlockHeader.is.Reads.Learnt
+pub block_header_is_unique : Unique BlockHeaderDefiningContracts.is.ended BlockHeaderDefining.is.Reads.Learnt
 block_header_is_unique κs a r s u v p q = by_equation p q
 
 pub block_header_fixed_unique : Unique BlockHeaderContracts.fixed.ended BlockHeader.fixed.Reads.Learnt
 block_header_fixed_unique κs a r s u v p q = by_equation p q
 
 -- framing::empty
-pub empty_fits_unique : Unique ModuleEmptyContracts.fits.ended ModuleEmpty.fits.Reads.Learnt
+pub empty_fits_unique : Unique ModuleEmptyRecordContracts.fits.ended ModuleEmptyRecord.fits.Reads.Learnt
 empty_fits_unique κs a r s u v p q = by_equation p q
 
-pub empty_build_unique : Unique ModuleEmptyContracts.build.ended ModuleEmpty.build.Reads.Learnt
+pub empty_build_unique : Unique ModuleEmptyRecordContracts.build.ended ModuleEmptyRecord.build.Reads.Learnt
 empty_build_unique κs a r s u v p q = by_equation p q
 
-pub empty_take_apart_unique : Unique ModuleEmptyContracts.take_apart.ended ModuleEmpty.take_apart.Reads.Learnt
+pub empty_take_apart_unique : Unique ModuleEmptyRecordContracts.take_apart.ended ModuleEmptyRecord.take_apart.Reads.Learnt
 empty_take_apart_unique κs a r s u v p q = by_equation p q
 
-pub empty_is_unique : Unique ModuleEmptyContracts.is.ended ModuleEmpty.is.Reads.Learnt
+pub empty_is_unique : Unique ModuleEmptyDefiningContracts.is.ended ModuleEmptyDefining.is.Reads.Learnt
 empty_is_unique κs a r s u v p q = by_equation p q
 
 -- framing::event_header
-pub event_header_fits_unique : Unique EventHeaderContracts.fits.ended EventHeader.fits.Reads.Learnt
+pub event_header_fits_unique : Unique EventHeaderRecordContracts.fits.ended EventHeaderRecord.fits.Reads.Learnt
 event_header_fits_unique κs a r s u v p q = by_equation p q
 
-pub event_header_build_unique : Unique EventHeaderContracts.build.ended EventHeader.build.Reads.Learnt
+pub event_header_build_unique : Unique EventHeaderRecordContracts.build.ended EventHeaderRecord.build.Reads.Learnt
 event_header_build_unique κs a r s u v p q = by_equation p q
 
-pub event_header_take_apart_unique : Unique EventHeaderContracts.take_apart.ended EventHeader.take_apart.Reads.Learnt
+pub event_header_take_apart_unique : Unique EventHeaderRecordContracts.take_apart.ended EventHeaderRecord.take_apart.Reads.Learnt
 event_header_take_apart_unique κs a r s u v p q = by_equation p q
 
-pub event_header_is_unique : Unique EventHeaderContracts.is.ended EventHeader.is.Reads.Learnt
+pub event_header_is_unique : Unique EventHeaderDefiningContracts.is.ended EventHeaderDefining.is.Reads.Learnt
 event_header_is_unique κs a r s u v p q = by_equation p q
 
 -- framing::filler
-pub filler_fits_unique : Unique FillerContracts.fits.ended Filler.fits.Reads.Learnt
+pub filler_fits_unique : Unique FillerRecordContracts.fits.ended FillerRecord.fits.Reads.Learnt
 filler_fits_unique κs a r s u v p q = by_equation p q
 
-pub filler_build_unique : Unique FillerContracts.build.ended Filler.build.Reads.Learnt
+pub filler_build_unique : Unique FillerRecordContracts.build.ended FillerRecord.build.Reads.Learnt
 filler_build_unique κs a r s u v p q = by_equation p q
 
-pub filler_take_apart_unique : Unique FillerContracts.take_apart.ended Filler.take_apart.Reads.Learnt
+pub filler_take_apart_unique : Unique FillerRecordContracts.take_apart.ended FillerRecord.take_apart.Reads.Learnt
 filler_take_apart_unique κs a r s u v p q = by_equation p q
 
-pub filler_is_unique : Unique FillerContracts.is.ended Filler.is.Reads.Learnt
+pub filler_is_unique : Unique FillerDefiningContracts.is.ended FillerDefining.is.Reads.Learnt
 filler_is_unique κs a r s u v p q = by_equation p q
 
 -- framing::parameters
-pub parameters_fits_unique : Unique ParametersContracts.fits.ended Parameters.fits.Reads.Learnt
+pub parameters_fits_unique : Unique ParametersRecordContracts.fits.ended ParametersRecord.fits.Reads.Learnt
 parameters_fits_unique κs a r s u v p q = by_equation p q
 
-pub parameters_build_unique : Unique ParametersContracts.build.ended Parameters.build.Reads.Learnt
+pub parameters_build_unique : Unique ParametersRecordContracts.build.ended ParametersRecord.build.Reads.Learnt
 parameters_build_unique κs a r s u v p q = by_equation p q
 
-pub parameters_take_apart_unique : Unique ParametersContracts.take_apart.ended Parameters.take_apart.Reads.Learnt
+pub parameters_take_apart_unique : Unique ParametersRecordContracts.take_apart.ended ParametersRecord.take_apart.Reads.Learnt
 parameters_take_apart_unique κs a r s u v p q = by_equation p q
 
-pub parameters_is_unique : Unique ParametersContracts.is.ended Parameters.is.Reads.Learnt
+pub parameters_is_unique : Unique ParametersContinuationContracts.is.ended ParametersContinuation.is.Reads.Learnt
 parameters_is_unique κs a r s u v p q = by_equation p q
 
 pub parameters_fixed_unique : Unique ParametersContracts.fixed.ended Parameters.fixed.Reads.Learnt
 parameters_fixed_unique κs a r s u v p q = by_equation p q
 
 -- framing::scaler
-pub scaler_fits_unique : Unique ScalerWordContracts.fits.ended ScalerWord.fits.Reads.Learnt
+pub scaler_fits_unique : Unique ScalerWordRecordContracts.fits.ended ScalerWordRecord.fits.Reads.Learnt
 scaler_fits_unique κs a r s u v p q = by_equation p q
 
-pub scaler_build_unique : Unique ScalerWordContracts.build.ended ScalerWord.build.Reads.Learnt
+pub scaler_build_unique : Unique ScalerWordRecordContracts.build.ended ScalerWordRecord.build.Reads.Learnt
 scaler_build_unique κs a r s u v p q = by_equation p q
 
-pub scaler_take_apart_unique : Unique ScalerWordContracts.take_apart.ended ScalerWord.take_apart.Reads.Learnt
+pub scaler_take_apart_unique : Unique ScalerWordRecordContracts.take_apart.ended ScalerWordRecord.take_apart.Reads.Learnt
 scaler_take_apart_unique κs a r s u v p q = by_equation p q
 
 -- framing::scalers
-pub scalers_fits_unique : Unique ScalerHeaderContracts.fits.ended ScalerHeader.fits.Reads.Learnt
+pub scalers_fits_unique : Unique ScalerHeaderRecordContracts.fits.ended ScalerHeaderRecord.fits.Reads.Learnt
 scalers_fits_unique κs a r s u v p q = by_equation p q
 
-pub scalers_build_unique : Unique ScalerHeaderContracts.build.ended ScalerHeader.build.Reads.Learnt
+pub scalers_build_unique : Unique ScalerHeaderRecordContracts.build.ended ScalerHeaderRecord.build.Reads.Learnt
 scalers_build_unique κs a r s u v p q = by_equation p q
 
-pub scalers_take_apart_unique : Unique ScalerHeaderContracts.take_apart.ended ScalerHeader.take_apart.Reads.Learnt
+pub scalers_take_apart_unique : Unique ScalerHeaderRecordContracts.take_apart.ended ScalerHeaderRecord.take_apart.Reads.Learnt
 scalers_take_apart_unique κs a r s u v p q = by_equation p q
 
-pub scalers_is_unique : Unique ScalerHeaderContracts.is.ended ScalerHeader.is.Reads.Learnt
+pub scalers_is_unique : Unique ScalerHeaderDefiningContracts.is.ended ScalerHeaderDefining.is.Reads.Learnt
 scalers_is_unique κs a r s u v p q = by_equation p q
 
 pub scalers_fixed_unique : Unique ScalerHeaderContracts.fixed.ended ScalerHeader.fixed.Reads.Learnt
 scalers_fixed_unique κs a r s u v p q = by_equation p q
 
 -- framing::trailer
-pub trailer_fits_unique : Unique BlockTrailerContracts.fits.ended BlockTrailer.fits.Reads.Learnt
+pub trailer_fits_unique : Unique BlockTrailerRecordContracts.fits.ended BlockTrailerRecord.fits.Reads.Learnt
 trailer_fits_unique κs a r s u v p q = by_equation p q
 
-pub trailer_build_unique : Unique BlockTrailerContracts.build.ended BlockTrailer.build.Reads.Learnt
+pub trailer_build_unique : Unique BlockTrailerRecordContracts.build.ended BlockTrailerRecord.build.Reads.Learnt
 trailer_build_unique κs a r s u v p q = by_equation p q
 
-pub trailer_take_apart_unique : Unique BlockTrailerContracts.take_apart.ended BlockTrailer.take_apart.Reads.Learnt
+pub trailer_take_apart_unique : Unique BlockTrailerRecordContracts.take_apart.ended BlockTrailerRecord.take_apart.Reads.Learnt
 trailer_take_apart_unique κs a r s u v p q = by_equation p q
 
-pub trailer_is_unique : Unique BlockTrailerContracts.is.ended BlockTrailer.is.Reads.Learnt
+pub trailer_is_unique : Unique BlockTrailerDefiningContracts.is.ended BlockTrailerDefining.is.Reads.Learnt
 trailer_is_unique κs a r s u v p q = by_equation p q
 
 -- framing::trigger_time
-pub trigger_time_fits_unique : Unique TriggerTimeContracts.fits.ended TriggerTime.fits.Reads.Learnt
+pub trigger_time_fits_unique : Unique TriggerTimeRecordContracts.fits.ended TriggerTimeRecord.fits.Reads.Learnt
 trigger_time_fits_unique κs a r s u v p q = by_equation p q
 
-pub trigger_time_build_unique : Unique TriggerTimeContracts.build.ended TriggerTime.build.Reads.Learnt
+pub trigger_time_build_unique : Unique TriggerTimeRecordContracts.build.ended TriggerTimeRecord.build.Reads.Learnt
 trigger_time_build_unique κs a r s u v p q = by_equation p q
 
-pub trigger_time_take_apart_unique : Unique TriggerTimeContracts.take_apart.ended TriggerTime.take_apart.Reads.Learnt
+pub trigger_time_take_apart_unique : Unique TriggerTimeRecordContracts.take_apart.ended TriggerTimeRecord.take_apart.Reads.Learnt
 trigger_time_take_apart_unique κs a r s u v p q = by_equation p q
 
-pub trigger_time_is_unique : Unique TriggerTimeContracts.is.ended TriggerTime.is.Reads.Learnt
+pub trigger_time_is_unique : Unique TriggerTimeDefiningContracts.is.ended TriggerTimeDefining.is.Reads.Learnt
 trigger_time_is_unique κs a r s u v p q = by_equation p q
 
 -- framing::trigger_time_high
-pub trigger_time_high_fits_unique : Unique TriggerTimeHighContracts.fits.ended TriggerTimeHigh.fits.Reads.Learnt
+pub trigger_time_high_fits_unique : Unique TriggerTimeHighRecordContracts.fits.ended TriggerTimeHighRecord.fits.Reads.Learnt
 trigger_time_high_fits_unique κs a r s u v p q = by_equation p q
 
-pub trigger_time_high_build_unique : Unique TriggerTimeHighContracts.build.ended TriggerTimeHigh.build.Reads.Learnt
+pub trigger_time_high_build_unique : Unique TriggerTimeHighRecordContracts.build.ended TriggerTimeHighRecord.build.Reads.Learnt
 trigger_time_high_build_unique κs a r s u v p q = by_equation p q
 
-pub trigger_time_high_take_apart_unique : Unique TriggerTimeHighContracts.take_apart.ended TriggerTimeHigh.take_apart.Reads.Learnt
+pub trigger_time_high_take_apart_unique : Unique TriggerTimeHighRecordContracts.take_apart.ended TriggerTimeHighRecord.take_apart.Reads.Learnt
 trigger_time_high_take_apart_unique κs a r s u v p q = by_equation p q
 
-pub trigger_time_high_is_unique : Unique TriggerTimeHighContracts.is.ended TriggerTimeHigh.is.Reads.Learnt
+pub trigger_time_high_is_unique : Unique TriggerTimeHighContinuationContracts.is.ended TriggerTimeHighContinuation.is.Reads.Learnt
 trigger_time_high_is_unique κs a r s u v p q = by_equation p q
 
 pub trigger_time_high_fixed_unique : Unique TriggerTimeHighContracts.fixed.ended TriggerTimeHigh.fixed.Reads.Learnt
 trigger_time_high_fixed_unique κs a r s u v p q = by_equation p q
 
 -- raw::pair
-pub pair_fits_unique : Unique SamplePairContracts.fits.ended SamplePair.fits.Reads.Learnt
+pub pair_fits_unique : Unique SamplePairRecordContracts.fits.ended SamplePairRecord.fits.Reads.Learnt
 pair_fits_unique κs a r s u v p q = by_equation p q
 
-pub pair_build_unique : Unique SamplePairContracts.build.ended SamplePair.build.Reads.Learnt
+pub pair_build_unique : Unique SamplePairRecordContracts.build.ended SamplePairRecord.build.Reads.Learnt
 pair_build_unique κs a r s u v p q = by_equation p q
 
-pub pair_take_apart_unique : Unique SamplePairContracts.take_apart.ended SamplePair.take_apart.Reads.Learnt
+pub pair_take_apart_unique : Unique SamplePairRecordContracts.take_apart.ended SamplePairRecord.take_apart.Reads.Learnt
 pair_take_apart_unique κs a r s u v p q = by_equation p q
 
-pub pair_is_unique : Unique SamplePairContracts.is.ended SamplePair.is.Reads.Learnt
+pub pair_is_unique : Unique SamplePairContinuationContracts.is.ended SamplePairContinuation.is.Reads.Learnt
 pair_is_unique κs a r s u v p q = by_equation p q
 
 pub pair_fixed_unique : Unique SamplePairContracts.fixed.ended SamplePair.fixed.Reads.Learnt
 pair_fixed_unique κs a r s u v p q = by_equation p q
 
 -- raw::pulse_raw
-pub pulse_raw_fits_unique : Unique PulseRawContracts.fits.ended PulseRaw.fits.Reads.Learnt
+pub pulse_raw_fits_unique : Unique PulseRawRecordContracts.fits.ended PulseRawRecord.fits.Reads.Learnt
 pulse_raw_fits_unique κs a r s u v p q = by_equation p q
 
-pub pulse_raw_build_unique : Unique PulseRawContracts.build.ended PulseRaw.build.Reads.Learnt
+pub pulse_raw_build_unique : Unique PulseRawRecordContracts.build.ended PulseRawRecord.build.Reads.Learnt
 pulse_raw_build_unique κs a r s u v p q = by_equation p q
 
-pub pulse_raw_take_apart_unique : Unique PulseRawContracts.take_apart.ended PulseRaw.take_apart.Reads.Learnt
+pub pulse_raw_take_apart_unique : Unique PulseRawRecordContracts.take_apart.ended PulseRawRecord.take_apart.Reads.Learnt
 pulse_raw_take_apart_unique κs a r s u v p q = by_equation p q
 
-pub pulse_raw_is_unique : Unique PulseRawContracts.is.ended PulseRaw.is.Reads.Learnt
+pub pulse_raw_is_unique : Unique PulseRawDefiningContracts.is.ended PulseRawDefining.is.Reads.Learnt
 pulse_raw_is_unique κs a r s u v p q = by_equation p q
 
 pub pulse_raw_fixed_unique : Unique PulseRawContracts.fixed.ended PulseRaw.fixed.Reads.Learnt
@@ -389,58 +436,58 @@ pulse_raw_fixed_unique κs a r s u v p q = by_equation p q
 pub window_within_unique : Unique WindowRawContracts.within.ended WindowRaw.within.Reads.Learnt
 window_within_unique κs a r s u v p q = by_equation p q
 
-pub window_fits_unique : Unique WindowRawContracts.fits.ended WindowRaw.fits.Reads.Learnt
+pub window_fits_unique : Unique WindowRawRecordContracts.fits.ended WindowRawRecord.fits.Reads.Learnt
 window_fits_unique κs a r s u v p q = by_equation p q
 
-pub window_build_unique : Unique WindowRawContracts.build.ended WindowRaw.build.Reads.Learnt
+pub window_build_unique : Unique WindowRawRecordContracts.build.ended WindowRawRecord.build.Reads.Learnt
 window_build_unique κs a r s u v p q = by_equation p q
 
-pub window_take_apart_unique : Unique WindowRawContracts.take_apart.ended WindowRaw.take_apart.Reads.Learnt
+pub window_take_apart_unique : Unique WindowRawRecordContracts.take_apart.ended WindowRawRecord.take_apart.Reads.Learnt
 window_take_apart_unique κs a r s u v p q = by_equation p q
 
-pub window_is_unique : Unique WindowRawContracts.is.ended WindowRaw.is.Reads.Learnt
+pub window_is_unique : Unique WindowRawDefiningContracts.is.ended WindowRawDefining.is.Reads.Learnt
 window_is_unique κs a r s u v p q = by_equation p q
 
 pub window_fixed_unique : Unique WindowRawContracts.fixed.ended WindowRaw.fixed.Reads.Learnt
 window_fixed_unique κs a r s u v p q = by_equation p q
 
 -- measures::integral
-pub integral_fits_unique : Unique PulseIntegralContracts.fits.ended PulseIntegral.fits.Reads.Learnt
+pub integral_fits_unique : Unique PulseIntegralRecordContracts.fits.ended PulseIntegralRecord.fits.Reads.Learnt
 integral_fits_unique κs a r s u v p q = by_equation p q
 
-pub integral_build_unique : Unique PulseIntegralContracts.build.ended PulseIntegral.build.Reads.Learnt
+pub integral_build_unique : Unique PulseIntegralRecordContracts.build.ended PulseIntegralRecord.build.Reads.Learnt
 integral_build_unique κs a r s u v p q = by_equation p q
 
-pub integral_take_apart_unique : Unique PulseIntegralContracts.take_apart.ended PulseIntegral.take_apart.Reads.Learnt
+pub integral_take_apart_unique : Unique PulseIntegralRecordContracts.take_apart.ended PulseIntegralRecord.take_apart.Reads.Learnt
 integral_take_apart_unique κs a r s u v p q = by_equation p q
 
-pub integral_is_unique : Unique PulseIntegralContracts.is.ended PulseIntegral.is.Reads.Learnt
+pub integral_is_unique : Unique PulseIntegralDefiningContracts.is.ended PulseIntegralDefining.is.Reads.Learnt
 integral_is_unique κs a r s u v p q = by_equation p q
 
 -- measures::pedestal
-pub pedestal_fits_unique : Unique PulsePedestalContracts.fits.ended PulsePedestal.fits.Reads.Learnt
+pub pedestal_fits_unique : Unique PulsePedestalRecordContracts.fits.ended PulsePedestalRecord.fits.Reads.Learnt
 pedestal_fits_unique κs a r s u v p q = by_equation p q
 
-pub pedestal_build_unique : Unique PulsePedestalContracts.build.ended PulsePedestal.build.Reads.Learnt
+pub pedestal_build_unique : Unique PulsePedestalRecordContracts.build.ended PulsePedestalRecord.build.Reads.Learnt
 pedestal_build_unique κs a r s u v p q = by_equation p q
 
-pub pedestal_take_apart_unique : Unique PulsePedestalContracts.take_apart.ended PulsePedestal.take_apart.Reads.Learnt
+pub pedestal_take_apart_unique : Unique PulsePedestalRecordContracts.take_apart.ended PulsePedestalRecord.take_apart.Reads.Learnt
 pedestal_take_apart_unique κs a r s u v p q = by_equation p q
 
-pub pedestal_is_unique : Unique PulsePedestalContracts.is.ended PulsePedestal.is.Reads.Learnt
+pub pedestal_is_unique : Unique PulsePedestalDefiningContracts.is.ended PulsePedestalDefining.is.Reads.Learnt
 pedestal_is_unique κs a r s u v p q = by_equation p q
 
 -- measures::time
-pub time_fits_unique : Unique PulseTimeContracts.fits.ended PulseTime.fits.Reads.Learnt
+pub time_fits_unique : Unique PulseTimeRecordContracts.fits.ended PulseTimeRecord.fits.Reads.Learnt
 time_fits_unique κs a r s u v p q = by_equation p q
 
-pub time_build_unique : Unique PulseTimeContracts.build.ended PulseTime.build.Reads.Learnt
+pub time_build_unique : Unique PulseTimeRecordContracts.build.ended PulseTimeRecord.build.Reads.Learnt
 time_build_unique κs a r s u v p q = by_equation p q
 
-pub time_take_apart_unique : Unique PulseTimeContracts.take_apart.ended PulseTime.take_apart.Reads.Learnt
+pub time_take_apart_unique : Unique PulseTimeRecordContracts.take_apart.ended PulseTimeRecord.take_apart.Reads.Learnt
 time_take_apart_unique κs a r s u v p q = by_equation p q
 
-pub time_is_unique : Unique PulseTimeContracts.is.ended PulseTime.is.Reads.Learnt
+pub time_is_unique : Unique PulseTimeDefiningContracts.is.ended PulseTimeDefining.is.Reads.Learnt
 time_is_unique κs a r s u v p q = by_equation p q
 
 pub time_fixed_unique : Unique PulseTimeContracts.fixed.ended PulseTime.fixed.Reads.Learnt
@@ -680,32 +727,32 @@ finish_check_unique κs a r s u v p q = (W.one_refusal r s p q, refl)
 
 -- writer
 pub set_up_unique : Unique writer_contracts.set_up.ended writer.set_up.Reads.Learnt
-set_up_unique κs a r s u v p q = (W.set_up_unique _ _ _ p q, refl)
+set_up_unique κs a r s u v p q = (made_inj _ _ (W.set_up_unique _ _ _ p q), refl)
 
 pub open_block_unique : Unique writer_contracts.open_block.ended writer.open_block.Reads.Learnt
-open_block_unique κs a r s u v p q = let e = W.open_block_unique _ _ _ _ _ _ _ _ p q in (e.0, λ i. (tt, (e.1 i, u.1.1)))
+open_block_unique κs a r s u v p q = let e = W.open_block_unique _ _ _ _ _ _ _ _ p q in (λ i. (e.0 i).refusal, λ i. ((e.0 i).state, (e.1 i, u.1.1)))
 
 pub open_event_unique : Unique writer_contracts.open_event.ended writer.open_event.Reads.Learnt
-open_event_unique κs a r s u v p q = (W.open_event_unique _ _ _ _ _ p q, refl)
+open_event_unique κs a r s u v p q = let e = W.open_event_unique _ _ _ _ _ p q in (λ i. (e i).refusal, λ i. ((e i).state, u.1))
 
 pub post_unique : Unique writer_contracts.post.ended writer.post.Reads.Learnt
-post_unique κs a r s u v p q = let e = W.post_unique _ _ _ _ _ _ _ _ p q in (e.0, λ i. (tt, (e.1 i, u.1.1)))
+post_unique κs a r s u v p q = let e = W.post_unique _ _ _ _ _ _ _ _ p q in (λ i. (e.0 i).refusal, λ i. ((e.0 i).state, (e.1 i, u.1.1)))
 
 pub close_unique : Unique closing_contracts.close.ended closing.close.Reads.Learnt
-close_unique κs a r s u v p q = let e = closed.close_unique _ _ _ _ _ _ _ _ p q in (e.0, λ i. (tt, (tt, (e.1 i, u.1.1.1))))
+close_unique κs a r s u v p q = let e = closed.close_unique _ _ _ _ _ _ _ _ p q in (λ i. (e.0 i).refusal, λ i. ((e.0 i).state, (tt, (e.1 i, u.1.1.1))))
 
 pub finish_unique : Unique writer_contracts.finish.ended writer.finish.Reads.Learnt
-finish_unique κs a r s u v p q = let e = W.finish_unique _ _ _ _ _ _ p q in (e.0, λ i. (tt, (e.1 i, tt)))
+finish_unique κs a r s u v p q = let e = W.finish_unique _ _ _ _ _ _ p q in let f = finished_inj _ _ _ _ e.0 in (f.0, λ i. (f.1 i, (e.1 i, tt)))
 
 -- counting
 pub count_unique : Unique counting_contracts.count.ended counting.count.Reads.Learnt
-count_unique κs a r s u v p q = (counted.count_unique _ _ _ _ p q, refl)
+count_unique κs a r s u v p q = let e = counted.count_unique _ _ _ _ p q in (λ i. (e i).refusal, λ i. ((e i).state, u.1))
 
 pub latch_unique : Unique counting_contracts.latch.ended counting.latch.Reads.Learnt
-latch_unique κs a r s u v p q = (counted.latch_unique _ _ _ p q, refl)
+latch_unique κs a r s u v p q = let e = counted.latch_unique _ _ _ p q in (λ i. (e i).refusal, λ i. ((e i).state, tt))
 
 pub reset_unique : Unique counting_contracts.reset.ended counting.reset.Reads.Learnt
-reset_unique κs a r s u v p q = (counted.reset_unique _ _ _ p q, refl)
+reset_unique κs a r s u v p q = let e = counted.reset_unique _ _ _ p q in (λ i. (e i).refusal, λ i. ((e i).state, tt))
 
 -- ---- reading
 
@@ -877,7 +924,7 @@ pub line_unique : Unique written_contracts.line.ended written.line.Reads.Learnt
 line_unique κs a r s u v p q = by_page u.1 p q
 
 pub cell_unique : Unique written_contracts.cell.ended written.cell.Reads.Learnt
-cell_unique κs a r s u v p q = let e = one_result p.0 q.0 in (λ i. record { bytes = (e i).0; count = (e i).1 }, refl)
+cell_unique κs a r s u v p q = by_page u.1 p.0 q.0
 
 -- text
 pub put_bytes_unique : Unique text_contracts.put_bytes.ended text.put_bytes.Reads.Learnt

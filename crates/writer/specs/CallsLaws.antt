@@ -8,7 +8,7 @@ use Rattle.items.specs.ItemsLaws.{length_words}
 use Rattle.rows.specs.RowsLaws.{row_end}
 use Rattle.state.specs.declared.State.{State}
 use Rattle.refusing.specs.TablesLaws.{PostAccepted}
-use Rattle.refusals.specs.Refusal.{if_accepted}
+use Rattle.refusals.specs.Refusal.{told, if_accepted}
 use Rattle.writer.specs.Calls.{row_start}
 
 pub done : {A : Type 0} {n : ℕ} (new old : A) → n ≡ 0 → if_accepted n new old ≡ new

@@ -1,3 +1,5 @@
+pub mod Answer
+pub mod AnswerLaws
 pub mod Calls
 pub mod CallsLaws
 pub mod KeptLaws

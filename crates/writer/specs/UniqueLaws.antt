@@ -1,20 +1,19 @@
 -- Two results that a call's statement allows are equal: the answer, the state in it, and the store or the words then lent. Assumes nothing.
 use Rattle.std.specs.Prelude.{ℕ, ◌≡◌, List}
 use Rattle.ground.specs.ResultLaws.{one_result}
-use Rattle.refusals.specs.declared.Refusal.{Refusal}
 use Rattle.settings.specs.declared.Settings.{Settings}
-use Rattle.refusals.specs.Refusal.{number_of}
-use Rattle.refusals.specs.RefusalLaws.{number_inj}
+use Rattle.refusals.specs.Refusal.{Outcome, told}
+use Rattle.refusals.specs.RefusalLaws.{told_inj}
 use Rattle.state.specs.declared.State.{State}
-use Rattle.writer.specs.declared.Answer.{Answer}
-use Rattle.writer.specs.declared.Finished.{Finished}
+use Rattle.writer.specs.Answer.{Answer}
+use Rattle.writer.specs.Answer.{Finished}
 use Rattle.writer.specs.Calls.{SetUpSays, OpenBlockSays, OpenEventSays, PostSays, FinishSays}
 
 -- a refusal said by its number, and an answer by its refusal and its state
-pub one_refusal : (a b : Refusal) {number : ℕ} → number_of a ≡ number → number_of b ≡ number → a ≡ b
-one_refusal a b p q = number_inj a b (one_result p q)
+pub one_refusal : (a b : Outcome) {number : ℕ} → told a ≡ number → told b ≡ number → a ≡ b
+one_refusal a b p q = told_inj a b (one_result p q)
 
-pub one_answer : (a b : Answer) {number : ℕ} {state : State} → number_of a.refusal ≡ number → number_of b.refusal ≡ number
+pub one_answer : (a b : Answer) {number : ℕ} {state : State} → told a.refusal ≡ number → told b.refusal ≡ number
     → a.state ≡ state → b.state ≡ state → a ≡ b
 one_answer a b p q s t =
     let refusal = one_refusal a.refusal b.refusal p q in

@@ -1,9 +1,12 @@
 -- The laws of a page: writers one after another, and what a page holds where all fits. Assumes nothing.
-use Rattle.std.specs.Prelude.{ℕ, suc, ◌+◌, ◌≤◌, ◌<◌, min, ◌≡◌, refl, Bool, true, false, List, [], ◌∷◌, ◌++◌, leb, ltb, length, take, drop, set, get_or}
-use Rattle.std.proofs.Common.{sym, ap, ◌∙◌, arith, zero-add, add-one, lt-ltb, le-ltb, ltb-true, ltb-false, le-leb, length-set, drop_of_length-le, take_at, drop-cons}
+use Rattle.std.specs.Prelude.{ℕ, suc, ◌+◌, ◌≤◌, ◌<◌, min, ◌≡◌, refl, true, false, List, [], ◌∷◌, ◌++◌, leb, length, take, drop, set, get_or}
+use Rattle.std.proofs.Common.{sym, ap, ap₂, ◌∙◌, append_assoc, drop-drop, arith, zero-add, add-one, lt-ltb, le-ltb, le-leb, length-set, drop_of_length-le, take_at, drop-cons}
 use Rattle.std.proofs.lemmas.Bool.{lt-leb}
+use Rattle.std.proofs.lemmas.Bool.Decides.{nat_tests}
+use Rattle.std.proofs.lemmas.List.{nil_from_length}
 use Rattle.std.proofs.Math.Seq.{set_out}
 use Rattle.std.proofs.lemmas.List.Edits.{sets, sets-eq}
+use borrow.Rule.Slice.PartMut.{put_mid}
 use Rattle.written.specs.Page.{Page, farthest, past, put_byte, put}
 
 pub put_nil : (p : Page) → put p [] ≡ p
@@ -51,18 +54,10 @@ put_done p s i h = rw (drop_of_length-le s h)
 -- ---- from the first place on: where all fits the bytes stand in front, the rest is as it was
 
 past_le : (at : ℕ) → at ≤ farthest → past at ≤ farthest
-past_le at h = go (ltb at farthest) refl
-  where
-    go : (t : Bool) → ltb at farthest ≡ t → past at ≤ farthest
-    go true e = rw e (omega (arith, ltb-true at farthest e))
-    go false e = rw e h
+past_le at h = grind (arith, nat_tests)
 
 past_min : (at n : ℕ) → at ≤ farthest → min (past at + n) farthest ≡ min (at + suc n) farthest
-past_min at n h = go (ltb at farthest) refl
-  where
-    go : (t : Bool) → ltb at farthest ≡ t → min (past at + n) farthest ≡ min (at + suc n) farthest
-    go true e = rw e (omega (arith, ltb-true at farthest e))
-    go false e = rw e (omega (arith, ltb-false at farthest e))
+past_min at n h = grind (arith, nat_tests)
 
 place_of : (p : Page) (xs : List ℕ) → p.1 ≤ farthest → (put p xs).1 ≡ min (p.1 + length xs) farthest
 unfolding put
@@ -83,6 +78,13 @@ as_sets l at (x ∷ xs) h = ap (λ (k : ℕ). (put (set l at x, k) xs).0) next �
 pub put_all : (l xs : List ℕ) → length xs ≤ length l → length l ≤ farthest → (put (l, 0) xs).0 ≡ xs ++ drop (length xs) l
 put_all l xs h k = as_sets l 0 xs (omega arith) ∙ sets-eq xs l 0 (omega arith) ∙ rw zero-add
 
+-- bytes that fit, in one piece
+pub put_over : (l xs : List ℕ) (at k : ℕ) → k ≡ length xs → at + length xs ≤ length l → length l ≤ farthest → ◌≡◌ {A = Page} (put_mid at k l xs, at + length xs) (put (l, at) xs)
+put_over l xs at k e h m = ap₂ (λ (b : List ℕ) (n : ℕ). (b, n)) (piece ∙ sym (as_sets l at xs (omega arith))) (sym (place_of (l, at) xs (omega arith) ∙ omega arith))
+  where
+    piece : put_mid at k l xs ≡ sets l at xs
+    piece = rw (e, drop-drop, ← append_assoc) (sym (sets-eq xs l at h))
+
 pub all_fits : (l all : List ℕ) (r : ℕ) (l' : List ℕ) → length all ≤ length l → length l < farthest → ◌≡◌ {A = Page} (l', r) (put (l, 0) all) → (r ≡ min (length all) farthest) × (leb (length all) (length l) ≡ true) × (l' ≡ all ++ drop (length all) l)
 all_fits l all r l' h m g = (ap (λ (p : Page). p.1) g ∙ place_all l all, le-leb (length all) (length l) h, ap (λ (p : Page). p.0) g ∙ put_all l all h (omega arith))
 
@@ -95,13 +97,9 @@ aside l all l' n e h m =
 
 -- ---- put on no page first, and so counted; then where all fits
 
-nil_of : (l : List ℕ) → length l ≡ 0 → l ≡ []
-nil_of [] e = refl
-nil_of (x ∷ l) e = absurd (omega arith)
-
 module _ (all l none : List ℕ) (n : ℕ) (e : ◌≡◌ {A = Page} (none, n) (put ([], 0) all)) where
   pub none_put : none ≡ []
-  none_put = nil_of none (ap (λ (p : Page). length p.0) e ∙ put_length ([], 0) all)
+  none_put = nil_from_length none (ap (λ (p : Page). length p.0) e ∙ put_length ([], 0) all)
 
   pub none_count : n ≡ min (length all) farthest
   none_count = ap (λ (p : Page). p.1) e ∙ place_all [] all

@@ -1,49 +1,41 @@
 -- A line that is written has room, and what a caller learns of it. Assumes nothing.
-use Rattle.std.specs.Prelude.{ℕ, ◌+◌, ◌-◌, ◌*◌, ◌≤◌, ◌<◌, ◌≡◌, refl, Bool, true, false, cond, ◌&&◌, List, leb, length, take, replicate}
-use Rattle.std.proofs.Common.{sym, ap, ◌∙◌, arith, leb-true, leb-false}
-use Rattle.std.proofs.lemmas.Bool.{false≢true}
-use Rattle.ground.specs.TestsLaws.{and_left, and_right}
+use Rattle.std.specs.Prelude.{ℕ, ◌+◌, ◌*◌, ◌≤◌, ◌<◌, ◌≡◌, Bool, true, false, cond, List, length, take, replicate}
+use Rattle.std.specs.declared.option.Option.{Option}
+use Rattle.std.specs.declared.option.Option.TheVariants.{Some, None}
+use Rattle.std.proofs.Common.{ap, ap₂, ◌∙◌, arith}
+use Rattle.std.proofs.lemmas.Bool.Decides.{nat_tests}
 use Rattle.written.specs.Page.{Page, put}
-use Rattle.written.specs.PageLaws.{put_length, aside}
 use Rattle.written.specs.Line.{cells_of, line_of, line_text}
-use Rattle.written.specs.declared.Put.{Put}
-use Rattle.written.specs.declared.Put.TheVariants as W
+use Rattle.written.specs.PageLaws.{put_length, aside}
 use Rattle.written.specs.Room.{has_room, on_to, written_of, aside_page}
 
 pub room_fits : (room at name cells : ℕ) → has_room room at name cells ≡ true → at + name + 21 * cells < room
-room_fits room at name cells e = go (leb room at) refl e
-  where
-    go : (b : Bool) → leb room at ≡ b → cond b false (leb name 8 && leb cells 5 && leb 114 (room - at)) ≡ true → at + name + 21 * cells < room
-    go true f e = absurd (false≢true e)
-    go false f e =
-        let h = and_left (leb name 8 && leb cells 5) _ e in
-        omega (arith, leb-false room at f, leb-true name 8 (and_left _ _ h), leb-true cells 5 (and_right (leb name 8) _ h), leb-true 114 (room - at) (and_right (leb name 8 && leb cells 5) _ e))
+room_fits room at name cells e = grind (arith, nat_tests)
 
-module _ (text : List ℕ) (at : ℕ) (name cells : List ℕ) (dashes : ℕ) {text' : List ℕ} {r : Put} (e : ◌≡◌ {A = List ℕ × Put} (text', r) (written_of (text, at) name cells dashes)) where
-  pub written_at : {k : ℕ} → r ≡ W.At k → ◌≡◌ {A = Page} (text', k) (put (text, at) (line_text (line_of name (cells_of dashes cells))))
+-- a pair tells its parts
+module _ {A B : Type 0} {a c : A} {b d : B} (e : ◌≡◌ {A = A × B} (a, b) (c, d)) where
+  first_is : a ≡ c
+  first_is = ap (λ (y : A × B). y.0) e
+
+  second_is : b ≡ d
+  second_is = ap (λ (y : A × B). y.1) e
+
+module _ (text : List ℕ) (at : ℕ) (name cells : List ℕ) (dashes : ℕ) {text' : List ℕ} {r : Option ℕ} (e : ◌≡◌ {A = List ℕ × Option ℕ} (text', r) (written_of (text, at) name cells dashes)) where
+  pub written_at : {k : ℕ} → r ≡ Some k → ◌≡◌ {A = Page} (text', k) (put (text, at) (line_text (line_of name (cells_of dashes cells))))
   unfolding written_of
-  written_at {k} g = go (has_room (length text) at (length name) (length cells)) e
+  written_at {k} g = go (has_room (length text) at (length name) (length cells)) (put (text, at) (line_text (line_of name (cells_of dashes cells)))) e
     where
-      p : Page
-      p = put (text, at) (line_text (line_of name (cells_of dashes cells)))
+      go : (b : Bool) (p : Page) → ◌≡◌ {A = List ℕ × Option ℕ} (text', r) (cond b (on_to p) (text, None)) → ◌≡◌ {A = Page} (text', k) p
+      go true p h = let at_next : k ≡ p.1 = cc (second_is h) in ap₂ (λ (l : List ℕ) (n : ℕ). (l, n)) (first_is h) at_next
+      go false p h = cc (second_is h)
 
-      go : (b : Bool) → ◌≡◌ {A = List ℕ × Put} (text', r) (cond b (on_to p) (text, W.NoRoom)) → ◌≡◌ {A = Page} (text', k) p
-      go true h =
-          let d : W.At k ≡ W.At p.1 = sym g ∙ ap (λ (y : List ℕ × Put). y.1) h in
-          let b : k ≡ p.1 = cc in
-          ap (λ (l : List ℕ). (l, k)) (ap (λ (y : List ℕ × Put). y.0) h) ∙ ap (λ (n : ℕ). (p.0, n)) b
-      go false h = let d : W.At k ≡ W.NoRoom = sym g ∙ ap (λ (y : List ℕ × Put). y.1) h in let z : ◌≡◌ {A = ℕ} 0 1 = cc in absurd (omega arith)
-
-  pub written_none : r ≡ W.NoRoom → text' ≡ text
+  pub written_none : r ≡ None → text' ≡ text
   unfolding written_of
-  written_none g = go (has_room (length text) at (length name) (length cells)) e
+  written_none g = go (has_room (length text) at (length name) (length cells)) (put (text, at) (line_text (line_of name (cells_of dashes cells)))) e
     where
-      p : Page
-      p = put (text, at) (line_text (line_of name (cells_of dashes cells)))
-
-      go : (b : Bool) → ◌≡◌ {A = List ℕ × Put} (text', r) (cond b (on_to p) (text, W.NoRoom)) → text' ≡ text
-      go true h = let d : W.NoRoom ≡ W.At p.1 = sym g ∙ ap (λ (y : List ℕ × Put). y.1) h in let z : ◌≡◌ {A = ℕ} 0 1 = cc in absurd (omega arith)
-      go false h = ap (λ (y : List ℕ × Put). y.0) h
+      go : (b : Bool) (p : Page) → ◌≡◌ {A = List ℕ × Option ℕ} (text', r) (cond b (on_to p) (text, None)) → text' ≡ text
+      go true p h = cc (second_is h)
+      go false p h = first_is h
 
 -- ---- a cell on a page of its own
 

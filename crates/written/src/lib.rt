@@ -15,14 +15,8 @@ const DASH: u8 = 45;
 
 const ZERO: u8 = 48;
 
-// The next place, or nothing was written.
-#[derive(Clone, Copy)]
-pub enum Put {
-    At(usize),
-    NoRoom,
-}
-
-// A cell behind its tab, on a page of its own, and its length.
+// A cell behind its tab, on a page of its own, and its length. It stays an array and a count: text of the library would be
+// looked through as UTF-8 at each cell, and a `Vec` wants a heap.
 #[derive(Clone, Copy)]
 pub struct Aside {
     pub bytes: [u8; 21],
@@ -43,13 +37,9 @@ fn write_bytes(text: &mut [u8], at: usize, s: &[u8]) -> usize
     requires { at + length s.now ≤ length text.old }
     ensures { ((text.new, result) ≡ put (text.old, at) s.now) × (result ≡ at + length s.now) }
 {
-    let mut i = 0;
-    let mut k = at;
-    while i < s.len() {
-        k = write_byte(text, k, s[i]);
-        i += 1;
-    }
-    k
+    let end = at + s.len();
+    text[at..end].copy_from_slice(s);
+    end
 }
 
 // The last digit of n, the last two, the last three.
@@ -111,15 +101,13 @@ fn write_cells(text: &mut [u8], at: usize, cells: &[u64], dashes: u32) -> usize
     requires { at + 21 * length cells.now ≤ length text.old }
     ensures { ((text.new, result) ≡ put (text.old, at) (cells_text (cells_of dashes cells.now))) × (result ≤ at + 21 * length cells.now) }
 {
-    let mut i = 0;
-    let mut k = at;
+    let mut end = at;
     let mut marks = dashes;
-    while i < cells.len() {
-        k = write_cell(text, k, marks % 2 == 1, cells[i]);
+    for n in cells {
+        end = write_cell(text, end, marks % 2 == 1, *n);
         marks /= 2;
-        i += 1;
     }
-    k
+    end
 }
 
 fn write_line(text: &mut [u8], at: usize, name: &[u8], cells: &[u64], dashes: u32) -> usize
@@ -135,20 +123,19 @@ fn write_line(text: &mut [u8], at: usize, name: &[u8], cells: &[u64], dashes: u3
 fn has_room(room: usize, at: usize, name: usize, cells: usize) -> bool
     ensures { result ≡ has_room room at name cells }
 {
-    if room <= at {
-        return false;
-    }
-    (name <= 8) & (cells <= 5) & (114 <= room - at)
+    (name <= 8) & (cells <= 5) & (114 <= room.saturating_sub(at))
 }
 
-// A name, its cells, a line feed, where the longest line has room. Bit i of `dashes` is set where cell i is a dash.
-pub fn line(text: &mut [u8], at: usize, name: &[u8], cells: &[u64], dashes: u32) -> Put
+// A name, its cells, a line feed: the next place, or nothing is written where the longest line has no room. Bit i of
+// `dashes` is set where cell i is a dash.
+pub fn line(text: &mut [u8], at: usize, name: &[u8], cells: &[u64], dashes: u32) -> Option<usize>
     ensures { (text.new, result) ≡ written_of (text.old, at) name.now cells.now dashes }
 {
     if has_room(text.len(), at, name.len(), cells.len()) {
-        return Put::At(write_line(text, at, name, cells, dashes));
+        Some(write_line(text, at, name, cells, dashes))
+    } else {
+        None
     }
-    Put::NoRoom
 }
 
 pub fn cell(dash: bool, n: u64) -> Aside
@@ -156,8 +143,5 @@ pub fn cell(dash: bool, n: u64) -> Aside
 {
     let mut bytes = [0u8; 21];
     let count = write_cell(&mut bytes, 0, dash, n);
-    Aside {
-        bytes: bytes,
-        count: count,
-    }
+    Aside { bytes, count }
 }

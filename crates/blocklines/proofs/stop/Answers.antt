@@ -1,5 +1,5 @@
 -- `blocklines::stop` meets its contract: the fillers' line, then a refusal or none.
-use Rattle.reader.specs.StepLaws.{number_some}
+use Rattle.refusals.specs.RefusalLaws.{number_some}
 use Rattle.blocklines.specs.BlockLaws.{stopped_broken}
 use Rattle.blocklines.proofs.stop.Goals as goal
 

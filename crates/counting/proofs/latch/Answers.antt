@@ -1,15 +1,9 @@
 -- `counting::latch` meets its contract. Assumes nothing.
-use Rattle.std.proofs.Common.{sym, ◌∙◌}
 use Rattle.state.specs.State.{with_scalers}
 use Rattle.counting.proofs.latch.Goals as goal
 
-pub returns-then-accepted : goal.returns-then-accepted
-unfolding with_scalers
-returns-then-accepted c =
-    let number = c.state_check-refusal.ensures in
-    record { refusal = number; state = rw (← number, sym c.accepted.ensures ∙ c.if-accepted.true, c.latch-latched.ensures) }
-
 pub returns : goal.returns
+unfolding with_scalers
 returns c =
-    let number = c.state_check-refusal.ensures in
-    record { refusal = number; state = rw (← number, sym c.accepted.ensures ∙ c.if-accepted.false) }
+    let number = c.in_ok-state_check.ensures in
+    record { refusal = number; state = rw (← number, c.latch-state.ensures) }

@@ -1,6 +1,6 @@
 -- `fields::take` meets its contract, from the laws of shifts and masks.
 use Rattle.fields.specs.Word.{field_at}
-use Rattle.fields.proofs.Masks.{one_shl_pos, masked, past, whole}
+use Rattle.fields.proofs.Masks.{masked, past, whole}
 use Rattle.fields.proofs.take.Goals as goal
 
 pub returns-then-place-ge32 : goal.returns-then-place-ge32
@@ -8,9 +8,6 @@ returns-then-place-ge32 c = past _ _ _ c.ranges.word.fits c.if-place-ge32.true
 
 pub returns-then-width-ge32 : goal.returns-then-width-ge32
 returns-then-width-ge32 c = whole _ _ _ c.ranges.word.fits c.if-width-ge32.true
-
-pub overflow_sub-result : goal.overflow_sub-result
-overflow_sub-result c = one_shl_pos _ c.if-width-ge32.false
 
 pub returns : goal.returns
 unfolding field_at

@@ -1,23 +1,22 @@
 -- `find::find` meets its contract. Assumes nothing.
-use Rattle.std.proofs.Common.{◌≡◌, ◌∙◌, true, arith, eqb-true, eqb, length}
+use Rattle.std.proofs.Common.{rules, ap, ◌≡◌, sym, ◌∙◌, arith, eq-eqb, length}
+use Rattle.std.specs.declared.result.Result.TheVariants.{Err}
+use Rattle.refusals.specs.RefusalLaws.{number_some}
+use Rattle.finder.specs.Find.{packed}
 use Rattle.finder.specs.FindLaws.{range_searches, find_all_lem}
-use Rattle.find.specs.Call.{find_number, channel_pulses}
+use Rattle.find.specs.Call.{channel_pulses}
 use Rattle.find.specs.CallLaws.{Accepted, accepted, found_none, found_all}
 use Rattle.find.proofs.RulesLaws.{find_says}
 use Rattle.find.proofs.find.Goals as goal
-use Rattle.find.proofs.find.Goals.{Else-not-accepted}
+use Rattle.find.proofs.find.Goals.{In_ok-check}
 
-pub returns-then-not-accepted : goal.returns-then-not-accepted
-returns-then-not-accepted c =
-    find_says _ _ _
-    c.refusal_of-refusal.ensures
-    (rw (found_none _ _ _ (rw (c.accepted.ensures, c.refusal_of-refusal.ensures) at (c.if-not-accepted.true))) c.no_pulses-found.ensures)
+pub returns-in_err-check : goal.returns-in_err-check
+returns-in_err-check c =
+    let e : c.from_residual.result ≡ Err c.in_err-check.field-0.0 = search rules in
+    rw e (find_says _ _ _ c.in_err-check.ensures (sym (ap packed (found_none _ _ _ (rw (sym c.in_err-check.ensures) (number_some c.in_err-check.field-0.0))))))
 
-no_refusal : (c : Else-not-accepted) → eqb (find_number c.args.settings c.args.channel c.args.window.now) 0 ≡ true
-no_refusal c = rw (c.accepted.ensures, c.refusal_of-refusal.ensures) at (c.if-not-accepted.false)
-
-taken : (c : Else-not-accepted) → Accepted c.args.settings c.args.channel c.args.window.now
-taken c = accepted _ _ _ (eqb-true _ _ (no_refusal c))
+taken : (c : In_ok-check) → Accepted c.args.settings c.args.channel c.args.window.now
+taken c = accepted _ _ _ (sym c.in_ok-check.ensures)
 
 pub offset_bounds-settings-channel : goal.offset_bounds-settings-channel
 offset_bounds-settings-channel c = omega (arith, taken c)
@@ -29,6 +28,6 @@ pub returns : goal.returns
 unfolding channel_pulses
 returns c =
     let a = c.args in
-    let t = taken (goal.at.returns c).Else-not-accepted in
+    let t = taken (goal.at.returns c).In_ok-check in
     let asked = range_searches a.settings (length a.window.now) t.settings (omega (arith, t.long, t.settings.nw)) in
-    find_says _ _ _ c.refusal_of-refusal.ensures (rw (found_all _ _ _ (no_refusal (goal.at.returns c).Else-not-accepted)) (c.pulses_of-found.ensures ∙ find_all_lem _ _ _ _ _ asked))
+    find_says _ _ _ c.in_ok-check.ensures (rw (found_all _ _ _ (eq-eqb _ _ (sym c.in_ok-check.ensures))) (c.pulses_of.ensures ∙ find_all_lem _ _ _ _ _ asked))

@@ -1,5 +1,5 @@
 -- `finder::all_pulses` meets its contract. The invariant: the pulses that stand and those to come are the answer. Assumes nothing.
-use Rattle.std.proofs.Common.{sym, ◌∙◌, arith}
+use Rattle.std.proofs.Common.{◌≡◌, sym, ◌∙◌, arith}
 use Rattle.finder.specs.FindLaws.{find_start, find_full, find_none, find_turn}
 use Rattle.search.specs.Asked.{IsOver}
 use Rattle.search.specs.SearchLaws.{tc_over}
@@ -27,4 +27,6 @@ loop-count-preserved c =
     c.loop-count.invariant ∙ find_turn _ _ _ _ _ _ _ _ _ _ c.loop-count-test.true c.tc_from-tc.ensures c.if-tc-eq0.false c.pulse_at.ensures
 
 pub returns : goal.returns
-returns c = sym (c.loop-count.invariant ∙ find_full _ _ _ _ _ _ _ _ (omega arith))
+returns c =
+    let e : c.loop-count.count ≡ c.args.limit = omega arith in
+    sym (c.loop-count.invariant ∙ rw e (find_full _ _ _ _ _ _ _ _ (omega arith)))

@@ -2,9 +2,10 @@
 use Rattle.std.proofs.Common.{◌≡◌, sym, ap₂, ◌∙◌, Bool, true, ◌&&◌, length}
 use Rattle.ground.specs.TestsLaws.{and_left, and_right}
 use Rattle.search.specs.Asked.{IsOver}
+use Rattle.timing.specs.TimeLaws.{in_window_lem}
 use Rattle.finder.specs.Find.{searchable}
-use Rattle.finder.specs.Wanted.{is_tc}
-use Rattle.finder.specs.FindLaws.{Searched, searched, is_tc_lem, from_is}
+use Rattle.finder.specs.Wanted.{pulse_from, is_tc}
+use Rattle.finder.specs.FindLaws.{Searched, searched, is_tc_lem}
 use Rattle.finder.proofs.pulse_with.Goals as goal
 use Rattle.finder.proofs.pulse_with.Goals.{Else-not-can_search-is_tc}
 
@@ -23,11 +24,14 @@ module _ (c : Else-not-can_search-is_tc) where
   over : IsOver c.args.window.now c.args.threshold c.args.tc
   over = is_tc_lem _ _ _ (and_right (searchable (length c.args.window.now) c.args.nsa 0) _ asked)
 
-pub coarse_pulse-pulse-requires : goal.coarse_pulse-pulse-requires
-coarse_pulse-pulse-requires c = ((over c).from, (over c).to, (can c).short, (can c).within)
-
-pub time_if-pulse-requires : goal.time_if-pulse-requires
-time_if-pulse-requires c = ((over (goal.at.time_if-pulse-requires c).Else-not-can_search-is_tc).from, (over (goal.at.time_if-pulse-requires c).Else-not-can_search-is_tc).to)
+pub pulse_of-requires : goal.pulse_of-requires
+pulse_of-requires c =
+    let e = (goal.at.pulse_of-requires c).Else-not-can_search-is_tc in
+    ((over e).from, (over e).to, (can e).short, (can e).within)
 
 pub returns : goal.returns
-returns c = rw (asked (goal.at.returns c).Else-not-can_search-is_tc) (from_is _ _ _ _ _ _ _ _ _ c.coarse_pulse-pulse.ensures c.time_if-pulse.ensures)
+unfolding pulse_from
+returns c =
+    let e = (goal.at.returns c).Else-not-can_search-is_tc in
+    let time = rw (in_window_lem _ _ (over e).from (over e).to) at c.time_from-time.ensures in
+    rw (asked e) (rw time at c.pulse_of.ensures)

@@ -8,4 +8,4 @@ overflow_cast-count c = omega (arith, c.requires.1.count)
 
 pub returns : goal.returns
 returns c =
-    found_put c.args.out.now c.args.found c.requires.0 c.pulse_row-first.ensures c.pulse_row-second.ensures c.pulse_row-third.ensures c.put32.ensures c.put32-2.ensures c.put32-3.ensures c.put32-4.ensures
+    found_put c.args.out.now c.args.found c.requires.0 c.pulse_row-first.ensures c.pulse_row-second.ensures c.pulse_row-third.ensures c.put.ensures c.put-2.ensures c.put-3.ensures c.put-4.ensures

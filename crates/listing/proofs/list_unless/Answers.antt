@@ -8,9 +8,9 @@ pub returns-then-bytes-text : goal.returns-then-bytes-text
 returns-then-bytes-text c =
     room_sure _ _ _ _ (omega (arith, c.well_formed, unless_le c.args.wrong c.args.bytes.now (omega (arith, c.well_formed)))) (omega (arith, c.well_formed)) c.put_listing.ensures
 
-pub returns-then-text-length : goal.returns-then-text-length
-returns-then-text-length c = no_room _ _ _ _ c.put_listing-length.ensures c.if-text-length.true
+pub returns-then-text-needed : goal.returns-then-text-needed
+returns-then-text-needed c = no_room _ _ _ _ c.put_listing-needed.ensures (omega arith)
 
 pub returns : goal.returns
 returns c =
-    room _ _ _ _ c.put_listing-length.ensures _ _ c.if-text-length.false (omega (arith, c.well_formed)) c.put_listing-2.ensures
+    room _ _ _ _ c.put_listing-needed.ensures _ _ (omega arith) (omega (arith, c.well_formed)) c.put_listing-2.ensures

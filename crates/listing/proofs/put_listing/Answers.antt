@@ -6,7 +6,3 @@ use Rattle.listing.proofs.put_listing.Goals as goal
 pub returns-then-wrong : goal.returns-then-wrong
 unfolding lines_unless
 returns-then-wrong c = say_one _ _ _ _ c.put_refused.ensures (rw (c.if-wrong.true, c.number.ensures))
-
-pub returns : goal.returns
-unfolding lines_unless
-returns c = rw c.if-wrong.false c.list_blocks.ensures

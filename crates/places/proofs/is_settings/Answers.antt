@@ -1,16 +1,11 @@
 -- `places::is_settings` meets its contract. Assumes nothing.
-use Rattle.std.proofs.Common.{◌-◌, sym, arith, length, length-take}
+use Rattle.std.proofs.Common.{sym}
 use Rattle.places.specs.PlacesLaws.{settings_short, settings_asked}
 use Rattle.places.proofs.is_settings.Goals as goal
 
 pub returns-then-numbers-lt-CHANNELS : goal.returns-then-numbers-lt-CHANNELS
 returns-then-numbers-lt-CHANNELS c = sym (settings_short c.args.numbers.now c.if-numbers-lt-CHANNELS.true)
 
-pub slice_bounds-held_in-end-2 : goal.slice_bounds-held_in-end-2
-slice_bounds-held_in-end-2 c =
-    let n = c.args.numbers.now in
-    omega (arith, length-take (length n - 16) n)
-
 pub returns : goal.returns
 returns c =
-    settings_asked c.args.numbers.now c.if-numbers-lt-CHANNELS.false c.field_limits-limits.ensures c.held_in-fields.ensures c.held_in_32-thresholds.ensures
+    settings_asked c.args.numbers.now c.if-numbers-lt-CHANNELS.false c.held_in-fields.ensures c.held_in_32-thresholds.ensures

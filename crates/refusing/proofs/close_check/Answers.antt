@@ -36,25 +36,25 @@ pub returns-then-good-during_ok : goal.returns-then-good-during_ok
 unfolding before_room close_table
 returns-then-good-during_ok c =
     sym (is_first
-    (this_row _ _ (asked c.args.s c.is_event.ensures c.if-not-is_event.false c.common_ok-good.ensures c.during_ok.ensures ∙ c.if-good-during_ok.true)))
+    (this_row _ _ (asked c.args.s c.is_event.ensures c.if-not-is_event.false c.common_ok.ensures c.during_ok.ensures ∙ c.if-common_ok-during_ok.true)))
 
 pub returns-then-store_short : goal.returns-then-store_short
 unfolding before_room close_table
 returns-then-store_short c =
-    sym (is_first (past_2 c.args.s c.is_event.ensures c.if-not-is_event.false c.common_ok-good.ensures c.during_ok.ensures c.if-good-during_ok.false
+    sym (is_first (past_2 c.args.s c.is_event.ensures c.if-not-is_event.false c.common_ok.ensures c.during_ok.ensures c.if-common_ok-during_ok.false
     (this_row _ _ (rw c.store_short.ensures at c.if-store_short.true))))
 
 pub returns-then-not-rows_ok : goal.returns-then-not-rows_ok
 unfolding before_room close_table
 returns-then-not-rows_ok c =
-    sym (is_first (past_2 c.args.s c.is_event.ensures c.if-not-is_event.false c.common_ok-good.ensures c.during_ok.ensures c.if-good-during_ok.false
+    sym (is_first (past_2 c.args.s c.is_event.ensures c.if-not-is_event.false c.common_ok.ensures c.during_ok.ensures c.if-common_ok-during_ok.false
     (later_row _ (rw c.store_short.ensures at c.if-store_short.false)
-    (this_row _ _ (ap not (sym (rw (lent_enough _ _ _ (lent c.args.s c.is_event.ensures c.if-not-is_event.false c.common_ok-good.ensures c.during_ok.ensures c.if-good-during_ok.false (search rules) c.args.store.now c.store_short.ensures c.if-store_short.false)) at c.rows_ok.ensures) ∙ c.if-not-rows_ok.true))))))
+    (this_row _ _ (ap not (sym (rw (lent_enough _ _ _ (lent c.args.s c.is_event.ensures c.if-not-is_event.false c.common_ok.ensures c.during_ok.ensures c.if-common_ok-during_ok.false (search rules) c.args.store.now c.store_short.ensures c.if-store_short.false)) at c.rows_ok.ensures) ∙ c.if-not-rows_ok.true))))))
 
 pub returns : goal.returns
 unfolding before_room close_table
 returns c =
-    sym (is_first (past_2 c.args.s c.is_event.ensures c.if-not-is_event.false c.common_ok-good.ensures c.during_ok.ensures c.if-good-during_ok.false
+    sym (is_first (past_2 c.args.s c.is_event.ensures c.if-not-is_event.false c.common_ok.ensures c.during_ok.ensures c.if-common_ok-during_ok.false
     (later_row _ (rw c.store_short.ensures at c.if-store_short.false)
-    (later_row _ (ap not (sym (rw (lent_enough _ _ _ (lent c.args.s c.is_event.ensures c.if-not-is_event.false c.common_ok-good.ensures c.during_ok.ensures c.if-good-during_ok.false (search rules) c.args.store.now c.store_short.ensures c.if-store_short.false)) at c.rows_ok.ensures) ∙ c.if-not-rows_ok.false))
+    (later_row _ (ap not (sym (rw (lent_enough _ _ _ (lent c.args.s c.is_event.ensures c.if-not-is_event.false c.common_ok.ensures c.during_ok.ensures c.if-common_ok-during_ok.false (search rules) c.args.store.now c.store_short.ensures c.if-store_short.false)) at c.rows_ok.ensures) ∙ c.if-not-rows_ok.false))
     (no_row)))))

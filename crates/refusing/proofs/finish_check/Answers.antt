@@ -29,24 +29,24 @@ pub returns-then-good-between_ok : goal.returns-then-good-between_ok
 unfolding finish_number finish_table
 returns-then-good-between_ok c =
     sym (is_first
-    (this_row _ _ (asked c.args.s c.is_block.ensures c.if-not-is_block.false c.common_ok-good.ensures c.between_ok.ensures ∙ c.if-good-between_ok.true)))
+    (this_row _ _ (asked c.args.s c.is_block.ensures c.if-not-is_block.false c.common_ok.ensures c.between_ok.ensures ∙ c.if-common_ok-between_ok.true)))
 
 pub returns-then-s : goal.returns-then-s
 unfolding finish_number finish_table
 returns-then-s c =
     sym (is_first
-    (later_row _ (asked c.args.s c.is_block.ensures c.if-not-is_block.false c.common_ok-good.ensures c.between_ok.ensures ∙ c.if-good-between_ok.false)
-    (this_row _ _ (rw (turn_off c.args.s c.is_block.ensures c.if-not-is_block.false c.common_ok-good.ensures c.between_ok.ensures, ne_eqb _ _ c.if-s.true)))))
+    (later_row _ (asked c.args.s c.is_block.ensures c.if-not-is_block.false c.common_ok.ensures c.between_ok.ensures ∙ c.if-common_ok-between_ok.false)
+    (this_row _ _ (rw (turn_off c.args.s c.is_block.ensures c.if-not-is_block.false c.common_ok.ensures c.between_ok.ensures, ne_eqb _ _ c.if-s.true)))))
 
 pub returns-then-end_short : goal.returns-then-end_short
 unfolding finish_number finish_table
 returns-then-end_short c =
-    sym (is_first (past_2 c.args.s c.is_block.ensures c.if-not-is_block.false c.common_ok-good.ensures c.between_ok.ensures c.if-good-between_ok.false (rw (eq-eqb _ _ c.if-s.false))
+    sym (is_first (past_2 c.args.s c.is_block.ensures c.if-not-is_block.false c.common_ok.ensures c.between_ok.ensures c.if-common_ok-between_ok.false (rw (eq-eqb _ _ c.if-s.false))
     (this_row _ _ (rw c.end_short.ensures at c.if-end_short.true))))
 
 pub returns : goal.returns
 unfolding finish_number finish_table
 returns c =
-    sym (is_first (past_2 c.args.s c.is_block.ensures c.if-not-is_block.false c.common_ok-good.ensures c.between_ok.ensures c.if-good-between_ok.false (rw (eq-eqb _ _ c.if-s.false))
+    sym (is_first (past_2 c.args.s c.is_block.ensures c.if-not-is_block.false c.common_ok.ensures c.between_ok.ensures c.if-common_ok-between_ok.false (rw (eq-eqb _ _ c.if-s.false))
     (later_row _ (rw c.end_short.ensures at c.if-end_short.false)
     (no_row))))

@@ -30,25 +30,25 @@ pub returns-then-good-idle_ok : goal.returns-then-good-idle_ok
 unfolding open_block_number open_block_table
 returns-then-good-idle_ok c =
     sym (is_first
-    (this_row _ _ (asked c.args.s c.is_idle.ensures c.if-not-is_idle.false c.common_ok-good.ensures c.idle_ok.ensures ∙ c.if-good-idle_ok.true)))
+    (this_row _ _ (asked c.args.s c.is_idle.ensures c.if-not-is_idle.false c.common_ok.ensures c.idle_ok.ensures ∙ c.if-common_ok-idle_ok.true)))
 
 pub returns-then-not-block_ok : goal.returns-then-not-block_ok
 unfolding open_block_number open_block_table
 returns-then-not-block_ok c =
-    sym (is_first (past_2 c.args.s c.is_idle.ensures c.if-not-is_idle.false c.common_ok-good.ensures c.idle_ok.ensures c.if-good-idle_ok.false
+    sym (is_first (past_2 c.args.s c.is_idle.ensures c.if-not-is_idle.false c.common_ok.ensures c.idle_ok.ensures c.if-common_ok-idle_ok.false
     (this_row _ _ (ap not (sym c.block_ok.ensures ∙ c.if-not-block_ok.true)))))
 
 pub returns-then-room_short : goal.returns-then-room_short
 unfolding open_block_number open_block_table
 returns-then-room_short c =
-    sym (is_first (past_2 c.args.s c.is_idle.ensures c.if-not-is_idle.false c.common_ok-good.ensures c.idle_ok.ensures c.if-good-idle_ok.false
+    sym (is_first (past_2 c.args.s c.is_idle.ensures c.if-not-is_idle.false c.common_ok.ensures c.idle_ok.ensures c.if-common_ok-idle_ok.false
     (later_row _ (ap not (sym c.block_ok.ensures ∙ c.if-not-block_ok.false))
     (this_row _ _ (rw block_length (rw (c.room_short.ensures, c.head_words.ensures) at c.if-room_short.true))))))
 
 pub returns : goal.returns
 unfolding open_block_number open_block_table
 returns c =
-    sym (is_first (past_2 c.args.s c.is_idle.ensures c.if-not-is_idle.false c.common_ok-good.ensures c.idle_ok.ensures c.if-good-idle_ok.false
+    sym (is_first (past_2 c.args.s c.is_idle.ensures c.if-not-is_idle.false c.common_ok.ensures c.idle_ok.ensures c.if-common_ok-idle_ok.false
     (later_row _ (ap not (sym c.block_ok.ensures ∙ c.if-not-block_ok.false))
     (later_row _ (rw block_length (rw (c.room_short.ensures, c.head_words.ensures) at c.if-room_short.false))
     (no_row)))))

@@ -29,24 +29,24 @@ pub returns-then-good-between_ok : goal.returns-then-good-between_ok
 unfolding open_event_number open_event_table
 returns-then-good-between_ok c =
     sym (is_first
-    (this_row _ _ (asked c.args.s c.is_block.ensures c.if-not-is_block.false c.common_ok-good.ensures c.between_ok.ensures ∙ c.if-good-between_ok.true)))
+    (this_row _ _ (asked c.args.s c.is_block.ensures c.if-not-is_block.false c.common_ok.ensures c.between_ok.ensures ∙ c.if-common_ok-between_ok.true)))
 
 pub returns-then-not-s : goal.returns-then-not-s
 unfolding open_event_number open_event_table
 returns-then-not-s c =
     sym (is_first
-    (later_row _ (asked c.args.s c.is_block.ensures c.if-not-is_block.false c.common_ok-good.ensures c.between_ok.ensures ∙ c.if-good-between_ok.false)
-    (this_row _ _ (rw (turn_off c.args.s c.is_block.ensures c.if-not-is_block.false c.common_ok-good.ensures c.between_ok.ensures, le-ltb _ _ c.if-not-s.true)))))
+    (later_row _ (asked c.args.s c.is_block.ensures c.if-not-is_block.false c.common_ok.ensures c.between_ok.ensures ∙ c.if-common_ok-between_ok.false)
+    (this_row _ _ (rw (turn_off c.args.s c.is_block.ensures c.if-not-is_block.false c.common_ok.ensures c.between_ok.ensures, le-ltb _ _ c.if-not-s.true)))))
 
 pub returns-then-not-event_ok : goal.returns-then-not-event_ok
 unfolding open_event_number open_event_table
 returns-then-not-event_ok c =
-    sym (is_first (past_2 c.args.s c.is_block.ensures c.if-not-is_block.false c.common_ok-good.ensures c.between_ok.ensures c.if-good-between_ok.false (rw (lt-ltb _ _ c.if-not-s.false))
+    sym (is_first (past_2 c.args.s c.is_block.ensures c.if-not-is_block.false c.common_ok.ensures c.between_ok.ensures c.if-common_ok-between_ok.false (rw (lt-ltb _ _ c.if-not-s.false))
     (this_row _ _ (ap not (sym c.event_ok.ensures ∙ c.if-not-event_ok.true)))))
 
 pub returns : goal.returns
 unfolding open_event_number open_event_table
 returns c =
-    sym (is_first (past_2 c.args.s c.is_block.ensures c.if-not-is_block.false c.common_ok-good.ensures c.between_ok.ensures c.if-good-between_ok.false (rw (lt-ltb _ _ c.if-not-s.false))
+    sym (is_first (past_2 c.args.s c.is_block.ensures c.if-not-is_block.false c.common_ok.ensures c.between_ok.ensures c.if-common_ok-between_ok.false (rw (lt-ltb _ _ c.if-not-s.false))
     (later_row _ (ap not (sym c.event_ok.ensures ∙ c.if-not-event_ok.false))
     (no_row))))

@@ -29,25 +29,25 @@ pub returns-then-good-during_ok : goal.returns-then-good-during_ok
 unfolding post_number post_table
 returns-then-good-during_ok c =
     sym (is_first
-    (this_row _ _ (asked c.args.s c.is_event.ensures c.if-not-is_event.false c.common_ok-good.ensures c.during_ok.ensures ∙ c.if-good-during_ok.true)))
+    (this_row _ _ (asked c.args.s c.is_event.ensures c.if-not-is_event.false c.common_ok.ensures c.during_ok.ensures ∙ c.if-common_ok-during_ok.true)))
 
 pub returns-then-channel-gt15 : goal.returns-then-channel-gt15
 unfolding post_number post_table
 returns-then-channel-gt15 c =
-    sym (is_first (past_2 c.args.s c.is_event.ensures c.if-not-is_event.false c.common_ok-good.ensures c.during_ok.ensures c.if-good-during_ok.false
+    sym (is_first (past_2 c.args.s c.is_event.ensures c.if-not-is_event.false c.common_ok.ensures c.during_ok.ensures c.if-common_ok-during_ok.false
     (this_row _ _ (lt-ltb _ _ c.if-channel-gt15.true))))
 
 pub returns-then-window-settings : goal.returns-then-window-settings
 unfolding post_number post_table
 returns-then-window-settings c =
-    sym (is_first (past_2 c.args.s c.is_event.ensures c.if-not-is_event.false c.common_ok-good.ensures c.during_ok.ensures c.if-good-during_ok.false
+    sym (is_first (past_2 c.args.s c.is_event.ensures c.if-not-is_event.false c.common_ok.ensures c.during_ok.ensures c.if-common_ok-during_ok.false
     (later_row _ (le-ltb _ _ c.if-channel-gt15.false)
     (this_row _ _ (rw (ne_eqb _ _ c.if-window-settings.true))))))
 
 pub returns-then-posted-channel : goal.returns-then-posted-channel
 unfolding post_number post_table
 returns-then-posted-channel c =
-    sym (is_first (past_2 c.args.s c.is_event.ensures c.if-not-is_event.false c.common_ok-good.ensures c.during_ok.ensures c.if-good-during_ok.false
+    sym (is_first (past_2 c.args.s c.is_event.ensures c.if-not-is_event.false c.common_ok.ensures c.during_ok.ensures c.if-common_ok-during_ok.false
     (later_row _ (le-ltb _ _ c.if-channel-gt15.false)
     (later_row _ (rw (eq-eqb _ _ c.if-window-settings.false))
     (this_row _ _ (c.if-posted-channel.true))))))
@@ -55,7 +55,7 @@ returns-then-posted-channel c =
 pub returns-then-store_short : goal.returns-then-store_short
 unfolding post_number post_table
 returns-then-store_short c =
-    sym (is_first (past_2 c.args.s c.is_event.ensures c.if-not-is_event.false c.common_ok-good.ensures c.during_ok.ensures c.if-good-during_ok.false
+    sym (is_first (past_2 c.args.s c.is_event.ensures c.if-not-is_event.false c.common_ok.ensures c.during_ok.ensures c.if-common_ok-during_ok.false
     (later_row _ (le-ltb _ _ c.if-channel-gt15.false)
     (later_row _ (rw (eq-eqb _ _ c.if-window-settings.false))
     (later_row _ (c.if-posted-channel.false)
@@ -64,7 +64,7 @@ returns-then-store_short c =
 pub returns-then-not-samples_ok : goal.returns-then-not-samples_ok
 unfolding post_number post_table
 returns-then-not-samples_ok c =
-    sym (is_first (past_2 c.args.s c.is_event.ensures c.if-not-is_event.false c.common_ok-good.ensures c.during_ok.ensures c.if-good-during_ok.false
+    sym (is_first (past_2 c.args.s c.is_event.ensures c.if-not-is_event.false c.common_ok.ensures c.during_ok.ensures c.if-common_ok-during_ok.false
     (later_row _ (le-ltb _ _ c.if-channel-gt15.false)
     (later_row _ (rw (eq-eqb _ _ c.if-window-settings.false))
     (later_row _ (c.if-posted-channel.false)
@@ -74,7 +74,7 @@ returns-then-not-samples_ok c =
 pub returns : goal.returns
 unfolding post_number post_table
 returns c =
-    sym (is_first (past_2 c.args.s c.is_event.ensures c.if-not-is_event.false c.common_ok-good.ensures c.during_ok.ensures c.if-good-during_ok.false
+    sym (is_first (past_2 c.args.s c.is_event.ensures c.if-not-is_event.false c.common_ok.ensures c.during_ok.ensures c.if-common_ok-during_ok.false
     (later_row _ (le-ltb _ _ c.if-channel-gt15.false)
     (later_row _ (rw (eq-eqb _ _ c.if-window-settings.false))
     (later_row _ (c.if-posted-channel.false)

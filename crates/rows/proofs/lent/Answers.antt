@@ -9,4 +9,4 @@ unfolding lent_ok
 returns c =
     let a = c.args in
     let n = length a.store.now in
-    rw (c.in_range-good.ensures, same_test a.settings.nw (n / 16) (16 * a.settings.nw) n (λ h. omega arith) (λ h. omega arith))
+    rw (c.in_range.ensures, same_test a.settings.nw (n / 16) (16 * a.settings.nw) n (λ h. omega arith) (λ h. omega arith))

@@ -1,21 +1,11 @@
 -- `runs::item_end` meets its contract.
-use Rattle.std.proofs.Common.{◌+◌, ◌-◌, ◌*◌, ◌≤◌, refl, sym, ap, ◌∙◌, arith}
-use Rattle.fields.specs.Word.{read}
+use Rattle.std.proofs.Common.{◌+◌, ◌-◌, ◌*◌, ◌≤◌, refl, arith}
 use Rattle.stretches.specs.Stretches.{measure}
 use Rattle.stretches.specs.WordsLaws.{words_count}
 use Rattle.stretches.specs.StretchesLaws.{Counted, counted}
 use Rattle.runs.specs.RunsLaws.{measures_passed}
 use Rattle.runs.proofs.item_end.Goals as goal
 use Rattle.runs.proofs.item_end.Goals.{After-measured_count}
-
-pub window_end-requires : goal.window_end-requires
-window_end-requires c =
-    let word = c.joined_at-word.ensures in
-    (c.requires, (rw (← word) (sym c.is_window.ensures ∙ c.if-is_window.true), c.take.ensures ∙ ap (read 11 0) word))
-
-pub raw_end-requires : goal.raw_end-requires
-raw_end-requires c =
-    (c.requires, rw (← c.joined_at-word.ensures) (sym c.is_raw.ensures ∙ c.if-is_raw.true))
 
 -- what was counted
 measured : (c : After-measured_count) →

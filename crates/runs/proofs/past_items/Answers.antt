@@ -6,7 +6,7 @@ use Rattle.runs.proofs.past_items.Goals as goal
 
 pub returns-then-scan-lt-PLACE_MAX : goal.returns-then-scan-lt-PLACE_MAX
 returns-then-scan-lt-PLACE_MAX c =
-    let here = c.is_behind.ensures c.if-is_behind.true in
+    let here = c.is_behind-behind.ensures c.if-behind.true in
     let events = c.events_end-run.ensures in
     record {
       ahead = events.1.ahead;

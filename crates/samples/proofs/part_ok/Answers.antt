@@ -1,17 +1,12 @@
--- `samples::part_ok` meets its contract. The invariant: what was tested and what is left are the whole. Assumes nothing.
-use Rattle.std.proofs.Common.{refl}
-use Rattle.samples.specs.Sample.{samples_ok}
-use Rattle.ground.specs.TestsLaws.{tested_turn, tested_end}
+-- `samples::part_ok` meets its contract: the fold joins the tests of all samples. Assumes nothing.
+use Rattle.std.proofs.Common.{true, ◌&&◌, leb, ◌∙◌, rules, tests}
+use Rattle.std.proofs.lemmas.Iterator.{YieldsList-from_slice}
+use Rattle.std.proofs.lemmas.Iterator.Consumers.{fold_from_yields_List}
+use Rattle.samples.specs.Sample.{most_sample}
+use Rattle.samples.specs.SampleLaws.{samples_fold}
 use Rattle.samples.proofs.part_ok.Goals as goal
 
-pub loop-i-init : goal.loop-i-init
-loop-i-init c = refl
-
-pub loop-i-preserved : goal.loop-i-preserved
-loop-i-preserved c =
-    let head = c.loop-i in
-    tested_turn _ _ head.good head.i head.invariant c.loop-i-test.true
-
 pub returns : goal.returns
-unfolding samples_ok
-returns c = tested_end _ _ _ _ c.loop-i.invariant c.loop-i-test.false
+returns c =
+    let part = c.args.part.now in
+    fold_from_yields_List _ (λ good x. good && leb x most_sample) true _ c.fold.ensures.ran (YieldsList-from_slice part cc) (λ a x b q k. search (rules, tests)) ∙ samples_fold part

@@ -1,24 +1,20 @@
--- `samples::samples_ok` meets its contract. The invariant: what is left tells of the whole. Assumes nothing.
-use Rattle.std.proofs.Common.{refl, sym, ◌∙◌, arith}
-use Rattle.samples.specs.SampleLaws.{part_then, part_last}
+-- `samples::samples_ok` meets its contract. The invariant: what is before the rest passed. Assumes nothing.
+use Rattle.std.proofs.Common.{sym, ◌∙◌, arith, rules}
+use Rattle.samples.specs.SampleLaws.{none_passed, more_passed, one_fails, all_passed}
 use Rattle.samples.proofs.samples_ok.Goals as goal
 
-pub loop-k-init : goal.loop-k-init
-loop-k-init c = refl
+pub loop-chunk-init : goal.loop-chunk-init
+loop-chunk-init c =
+    let w = c.args.window.now in
+    (search rules, none_passed w _ (search rules))
 
 pub returns-then-not-part_ok : goal.returns-then-not-part_ok
 returns-then-not-part_ok c =
-    let head = c.loop-k in
-    let bad = sym c.if-not-part_ok.true ∙ c.part_ok-in-loop-k.ensures in
-    sym (head.invariant ∙ part_then head.k _ _ _ (omega arith) bad)
+    sym (one_fails c.loop-chunk.invariant.1 _ _ c.in-Some.ensures.steps.1.0 (sym c.part_ok-in-loop-chunk.ensures ∙ c.if-not-part_ok.true))
 
-pub loop-k-preserved : goal.loop-k-preserved
-loop-k-preserved c =
-    let head = c.loop-k in
-    let good = sym c.if-not-part_ok.false ∙ c.part_ok-in-loop-k.ensures in
-    head.invariant ∙ part_then head.k _ _ _ (omega arith) good
+pub loop-chunk-preserved : goal.loop-chunk-preserved
+loop-chunk-preserved c =
+    (search rules, more_passed c.loop-chunk.invariant.1 _ _ c.in-Some.ensures.steps.1.0 (sym c.part_ok-in-loop-chunk.ensures ∙ c.if-not-part_ok.false))
 
 pub returns : goal.returns
-returns c =
-    let head = c.loop-k in
-    part_last head.k _ _ _ head.invariant c.loop-k-test.false c.part_ok-2.ensures
+returns c = all_passed c.loop-chunk.invariant.1 _ _ (omega (arith, c.in-None.ensures.steps.1.0)) c.part_ok-2.ensures

@@ -1,10 +1,7 @@
--- `samples::samples_ok` meets its contract. The invariant: what is left tells of the whole. Assumes nothing.
-use Rattle.std.proofs.Common.{◌-◌, ◌≡◌, drop}
-use Rattle.samples.specs.Sample.{samples_ok}
+-- `samples::samples_ok` meets its contract. The invariant: what is before the rest passed. Assumes nothing.
+use Rattle.std.proofs.Common.{◌≡◌}
+use Rattle.samples.specs.SampleLaws.{Passed}
 use Rattle.samples.proofs.samples_ok.Given as goal
 
-abbrev pub invariant-loop-k : goal.invariant-loop-k
-invariant-loop-k l = samples_ok l.window ≡ samples_ok (drop l.k l.window)
-
-abbrev pub decreases-loop-k : goal.decreases-loop-k
-decreases-loop-k l = l.n - l.k
+abbrev pub invariant-loop-chunk : goal.invariant-loop-chunk
+invariant-loop-chunk l = (l.chunk-iterator.size ≡ 64) × Passed l.window l.chunk-iterator.rest.now

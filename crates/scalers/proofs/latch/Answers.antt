@@ -10,5 +10,5 @@ unfolding latched_now
 returns c =
     let s : Scalers = c.args.s in
     let size : length s.counts ≡ 16 = search rules in
-    let all = latched_is s.counts c.put32.new.out c.put32-2.new.out s.timer s.triggers size c.put32.ensures c.put32-2.ensures in
+    let all = latched_is s.counts c.put.new.out c.put-2.new.out s.timer s.triggers size c.put.ensures c.put-2.ensures in
     rw all

@@ -6,4 +6,4 @@ use Rattle.settings.proofs.in_range.Goals as goal
 pub returns : goal.returns
 unfolding settings_ok ranges
 returns c =
-    rw (most_samples_lem, c.thresholds_ok-thresholds_good.ensures)
+    rw (most_samples_lem, c.thresholds_ok.ensures)

@@ -14,4 +14,4 @@ pub returns : goal.returns
 returns c =
     let bytes = c.args.bytes.now in
     rw (c.take.ensures, c.take-2.ensures, c.turned_at-word.ensures)
-    (turned_single bytes 0 (λ i. omega (arith, c.shared_slice_known-1.given i)) (omega arith))
+    (turned_single bytes 0 (λ i. omega (arith, c.type_inv.bytes i)) (omega arith))

@@ -5,10 +5,10 @@ use Rattle.timing.specs.TimeLaws.{base_early, base_low}
 use Rattle.timing.proofs.base_of.Goals as goal
 
 pub returns-then-is_early : goal.returns-then-is_early
-returns-then-is_early c = base_early _ _ (sym c.is_early.ensures ∙ c.if-is_early.true)
+returns-then-is_early c = sym (base_early _ _ (sym c.is_early.ensures ∙ c.if-is_early.true))
 
 pub vmin_of-low-requires : goal.vmin_of-low-requires
 vmin_of-low-requires c = (quiet _ _ (sym c.is_early.ensures ∙ c.if-is_early.false)).four
 
 pub returns : goal.returns
-returns c = base_low _ _ _ (sym c.is_early.ensures ∙ c.if-is_early.false) c.vmin_of-low.ensures
+returns c = rw c.vmin_of-low.ensures (sym (base_low _ _ (sym c.is_early.ensures ∙ c.if-is_early.false)))

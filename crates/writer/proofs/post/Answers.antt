@@ -1,20 +1,18 @@
 -- `writer::post` meets its contract: the row is a part of the store, and the window stands in it. Assumes nothing.
-use Rattle.std.proofs.Common.{sym, ap, ◌∙◌, ℕ, ◌+◌, ◌≤◌, ◌*◌, arith, eqb-true, length, length-take, length-drop}
+use Rattle.std.proofs.Common.{sym, ap, ◌∙◌, ℕ, ◌+◌, ◌≤◌, ◌*◌, arith, length}
 use Rattle.ground.specs.Splice.{splice}
 use Rattle.ground.specs.SpliceLaws.{part_splice}
 use Rattle.state.specs.State.{with_mark}
 use Rattle.refusing.specs.TablesLaws.{PostAccepted, post_accepted}
 use Rattle.writer.specs.CallsLaws.{window_fits}
 use Rattle.writer.proofs.post.Goals as goal
-use Rattle.writer.proofs.post.Goals.{Then-accepted}
+use Rattle.writer.proofs.post.Goals.{In_ok-post_check}
 
 -- where the post is accepted
-known : (c : Then-accepted) → let a = c.args in PostAccepted a.state (length a.store.now) a.channel a.window.now
-known c =
-    let check = c.post_check-refusal in
-    post_accepted _ _ _ _ (sym check.ensures ∙ eqb-true _ 0 (sym c.accepted.ensures ∙ c.if-accepted.true))
+known : (c : In_ok-post_check) → let a = c.args in PostAccepted a.state.now (length a.store.now) a.channel a.window.now
+known c = post_accepted _ _ _ _ (sym c.in_ok-post_check.ensures)
 
-fits : (c : Then-accepted) → let a = c.args in a.channel * length a.window.now + length a.window.now ≤ length a.store.now
+fits : (c : In_ok-post_check) → let a = c.args in a.channel * length a.window.now + length a.window.now ≤ length a.store.now
 fits c = window_fits _ _ _ _ (known c)
 
 pub overflow_mul-start : goal.overflow_mul-start
@@ -26,33 +24,22 @@ overflow_add-end c = omega (arith, fits c, c.well_formed)
 pub offset_bounds-store-start : goal.offset_bounds-store-start
 offset_bounds-store-start c = omega (arith, fits c, c.well_formed)
 
-pub slice_bounds-fill-end : goal.slice_bounds-fill-end
-slice_bounds-fill-end c = omega (arith, fits c, c.well_formed)
+pub slice_bounds-copy_from_slice-end : goal.slice_bounds-copy_from_slice-end
+slice_bounds-copy_from_slice-end c = omega (arith, fits c, c.well_formed)
 
-pub fill-requires : goal.fill-requires
-fill-requires c =
-    simp (length-take, length-drop) (omega (arith, fits (goal.at.fill-requires c).Then-accepted))
-
-pub bounds-marked-channel : goal.bounds-marked-channel
-bounds-marked-channel c = omega (arith, (known (goal.at.bounds-marked-channel c).Then-accepted).channel)
-
-pub returns-then-accepted : goal.returns-then-accepted
-unfolding with_mark
-returns-then-accepted c =
-    let a = c.args in
-    let w = a.window.now in
-    let number = c.post_check-refusal.ensures in
-    let yes = sym c.accepted.ensures ∙ c.if-accepted.true in
-    record {
-      refusal = number;
-      state = rw (← number, yes);
-      rows =
-          rw (← number, yes)
-          (part_splice a.store.now (a.channel * length w) (a.channel * length w + length w) w _ c.fill.ensures (omega arith) ∙ ap (λ (n : ℕ). splice a.store.now (a.channel * n) w) (known (goal.at.returns-then-accepted c).Then-accepted).whole);
-    }
+pub bounds-state-channel : goal.bounds-state-channel
+bounds-state-channel c = omega (arith, (known (goal.at.bounds-state-channel c).In_ok-post_check).channel)
 
 pub returns : goal.returns
+unfolding with_mark
 returns c =
-    let number = c.post_check-refusal.ensures in
-    let no = sym c.accepted.ensures ∙ c.if-accepted.false in
-    record { refusal = number; state = rw (← number, no); rows = rw (← number, no) }
+    let a = c.args in
+    let w = a.window.now in
+    let number = c.in_ok-post_check.ensures in
+    record {
+      refusal = number;
+      state = rw (← number);
+      rows =
+          rw (← number)
+          (part_splice a.store.now (a.channel * length w) (a.channel * length w + length w) w _ c.copy_from_slice.ensures.after (omega arith) ∙ ap (λ (n : ℕ). splice a.store.now (a.channel * n) w) (known (goal.at.returns c).In_ok-post_check).whole);
+    }

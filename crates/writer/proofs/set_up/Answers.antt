@@ -11,11 +11,11 @@ unfolding set_up_number first_of
 returns-then-in_range c =
     let s = c.args.settings in
     let e : settings_ok s ≡ true = sym c.in_range.ensures ∙ c.if-in_range.true in
-    record { refusal = rw e; state = rw e (c.idle_state-state.ensures ∙ ap (idle s) c.none.ensures) }
+    record { refusal = rw e; state = rw e (c.idle_state.ensures ∙ ap (idle s) c.none.ensures) }
 
 pub returns : goal.returns
 unfolding set_up_number first_of
 returns c =
     let s = c.args.settings in
     let e : settings_ok s ≡ false = sym c.in_range.ensures ∙ c.if-in_range.false in
-    record { refusal = rw e; state = rw e c.no_state-state.ensures }
+    record { refusal = rw e; state = rw e }

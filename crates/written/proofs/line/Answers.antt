@@ -11,6 +11,6 @@ pub returns-then-has_room : goal.returns-then-has_room
 unfolding written_of
 returns-then-has_room c = rw (sym c.has_room.ensures ∙ c.if-has_room.true) (ap on_to c.write_line.ensures)
 
-pub returns : goal.returns
+pub returns-else-has_room : goal.returns-else-has_room
 unfolding written_of
-returns c = rw (sym c.has_room.ensures ∙ c.if-has_room.false)
+returns-else-has_room c = rw (sym c.has_room.ensures ∙ c.if-has_room.false)

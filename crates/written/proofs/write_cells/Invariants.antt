@@ -1,15 +1,11 @@
 -- `written::write_cells` meets its contract: the page with the cells that are left is the page asked for.
-use Rattle.std.proofs.Common.{◌+◌, ◌*◌, ◌-◌, ◌≤◌, ◌≡◌, length, drop}
+use Rattle.std.proofs.Common.{◌+◌, ◌*◌, ◌≤◌, ◌≡◌, length, drop}
 use Rattle.written.specs.Page.{put}
 use Rattle.written.specs.Line.{cells_text, cells_of}
 use Rattle.written.proofs.write_cells.Given as goal
 
-abbrev pub invariant-loop-i : goal.invariant-loop-i
-invariant-loop-i l =
+abbrev pub invariant-loop-n : goal.invariant-loop-n
+invariant-loop-n l =
     (length l.text ≡ length l.initial.text)
-    × (l.i ≤ length l.cells)
-    × (l.k ≤ l.at + 21 * l.i)
-    × (put (l.initial.text, l.at) (cells_text (cells_of l.dashes l.cells)) ≡ put (l.text, l.k) (cells_text (cells_of l.marks (drop l.i l.cells))))
-
-abbrev pub decreases-loop-i : goal.decreases-loop-i
-decreases-loop-i l = length l.cells - l.i
+    × (l.end ≤ l.at + 21 * l.n-index)
+    × (put (l.initial.text, l.at) (cells_text (cells_of l.dashes l.cells)) ≡ put (l.text, l.end) (cells_text (cells_of l.marks (drop l.n-index l.cells))))

@@ -22,6 +22,6 @@ returns c =
     let wide16 = c.wide_16-counts.ensures in
     let wide18 = c.wide_18-latched.ensures in
     scalers_stored_lem c.args.numbers.now s (counts_size (goal.at.returns c).Start) (latched_size (goal.at.returns c).Start) c.if-numbers-lt-FRONT.false c.marks_number-marks.ensures
-    (c.put64.ensures ∙ ap (pasted c.args.numbers.now counts_at) wide16)
-    c.put64-2.ensures
-    (c.put64-3.ensures ∙ ap (pasted c.put64-2.new.out latched_at) wide18)
+    (c.put.ensures ∙ ap (pasted c.args.numbers.now counts_at) wide16)
+    c.put-2.ensures
+    (c.put-3.ensures ∙ ap (pasted c.put-2.new.out latched_at) wide18)

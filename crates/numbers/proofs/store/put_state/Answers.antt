@@ -20,4 +20,4 @@ returns-then-settings-ne-SETTINGS c =
 
 pub returns : goal.returns
 returns c =
-    state_stored_lem c.args.numbers.now c.args.state c.args.settings.now (sizes c.args.state.scalers (counts_size (goal.at.returns c).Start) (latched_size (goal.at.returns c).Start)) c.if-numbers-ne-STATE.false c.if-settings-ne-SETTINGS.false c.put64.ensures c.put_scalers.ensures c.put_head.ensures
+    state_stored_lem c.args.numbers.now c.args.state c.args.settings.now (sizes c.args.state.scalers (counts_size (goal.at.returns c).Start) (latched_size (goal.at.returns c).Start)) c.if-numbers-ne-STATE.false c.if-settings-ne-SETTINGS.false c.put.ensures c.put_scalers.ensures c.put_head.ensures

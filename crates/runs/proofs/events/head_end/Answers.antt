@@ -3,11 +3,8 @@ use Rattle.std.proofs.Common.{sym, ◌∙◌, arith, eqb-true}
 use Rattle.ground.specs.TestsLaws.{and_left, and_right}
 use Rattle.fields.specs.Bytes.{words_of_bytes}
 use Rattle.stretches.specs.WordsLaws.{words_count}
-use Rattle.runs.specs.RunsLaws.{head_none, head_run}
+use Rattle.runs.specs.RunsLaws.{head_run}
 use Rattle.runs.proofs.events.head_end.Goals as goal
-
-pub returns-then-end-k-lt3 : goal.returns-then-end-k-lt3
-returns-then-end-k-lt3 c = (omega arith, head_none _ _ _)
 
 pub returns-then-is-take : goal.returns-then-is-take
 returns-then-is-take c =
@@ -28,6 +25,3 @@ returns-then-is-take c =
             _ (rw (c.joined_at-low.ensures, c.joined_at-high.ensures) at size.1) (omega arith);
       },
     )
-
-pub returns : goal.returns
-returns c = (omega arith, head_none _ _ _)

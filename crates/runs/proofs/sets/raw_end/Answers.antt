@@ -2,26 +2,8 @@
 use Rattle.std.proofs.Common.{sym, ◌∙◌, arith}
 use Rattle.stretches.specs.WordsLaws.{words_count}
 use Rattle.stretches.specs.StretchesLaws.{all_none, all_one}
-use Rattle.runs.specs.RunsLaws.{passed_none, raw_run}
+use Rattle.runs.specs.RunsLaws.{raw_run}
 use Rattle.runs.proofs.sets.raw_end.Goals as goal
-
-pub returns-then-full-end : goal.returns-then-full-end
-returns-then-full-end c = (omega arith, passed_none _ _)
-
-pub returns-then-full-most : goal.returns-then-full-most
-returns-then-full-most c = (omega arith, passed_none _ _)
-
-pub returns-then-full-end-2 : goal.returns-then-full-end-2
-returns-then-full-end-2 c = (omega arith, passed_none _ _)
-
-pub returns-then-is_continuation : goal.returns-then-is_continuation
-returns-then-is_continuation c = (omega arith, passed_none _ _)
-
-pub returns-then-full-k : goal.returns-then-full-k
-returns-then-full-k c = (omega arith, passed_none _ _)
-
-pub returns-then-is_continuation-2 : goal.returns-then-is_continuation-2
-returns-then-is_continuation-2 c = (omega arith, passed_none _ _)
 
 -- behind a pair of one sample
 pub returns-then-single_at : goal.returns-then-single_at

@@ -5,21 +5,9 @@ use Rattle.raw.specs.Plain.{plain}
 use Rattle.stretches.specs.WordsLaws.{words_count}
 use Rattle.stretches.specs.Stretches.{All}
 use Rattle.stretches.specs.StretchesLaws.{all_passed}
-use Rattle.runs.specs.RunsLaws.{passed_none, window_run}
+use Rattle.runs.specs.RunsLaws.{window_run}
 use Rattle.runs.proofs.sets.window_end.Goals as goal
 use Rattle.runs.proofs.sets.window_end.Goals.{After-all_plain}
-
-pub returns-then-width-eq0 : goal.returns-then-width-eq0
-returns-then-width-eq0 c = (omega arith, passed_none _ _)
-
-pub returns-then-width-gt-MOST_SAMPLES : goal.returns-then-width-gt-MOST_SAMPLES
-returns-then-width-gt-MOST_SAMPLES c = (omega arith, passed_none _ _)
-
-pub returns-then-end-stop : goal.returns-then-end-stop
-returns-then-end-stop c = (omega arith, passed_none _ _)
-
-pub returns-then-not-all_plain : goal.returns-then-not-all_plain
-returns-then-not-all_plain c = (omega arith, passed_none _ _)
 
 -- what is so of them all
 pairs : (c : After-all_plain) → c.all_plain.result ≡ true →
@@ -46,6 +34,3 @@ returns-then-single_at c = (
       (λ h. sym c.single_at.ensures ∙ c.if-single_at.true)
       (omega (arith, words_count c.args.bytes.now)),
 )
-
-pub returns-else-single_at : goal.returns-else-single_at
-returns-else-single_at c = (omega arith, passed_none _ _)

@@ -1,24 +1,16 @@
--- `scalers::frames::narrowed` meets its contract: each threshold is stored at its place.
-use Rattle.std.proofs.Common.{◌<◌, map, length, sym, ◌∙◌, zero-add, arith}
+-- `scalers::frames::narrowed` meets its contract: each threshold stands at its place.
+use Rattle.std.proofs.Common.{◌≡◌, map, get_or, sym, ◌∙◌, arith, rules}
 use lib.ListN.{length-map, get_or-map}
-use Rattle.ground.specs.CopyLaws.{copy_start, copy_turn, copy_end}
-use Rattle.ground.specs.SpliceLaws.{splice_all}
+use Rattle.std.proofs.lemmas.Grind.{same_number_lists}
 use Rattle.scalers.specs.Inner.{narrow_of}
 use Rattle.scalers.proofs.frames.narrowed.Goals as goal
 
-pub loop-channel-preserved : goal.loop-channel-preserved
-unfolding narrow_of
-loop-channel-preserved c =
-    let head = c.loop-channel in
-    let ts = c.args.thresholds.now in
-    let here : head.channel < length (map narrow_of ts) = omega (arith, length-map ts narrow_of, c.requires, c.loop-channel-test.true) in
-    rw (c.narrow.ensures ∙ sym (get_or-map narrow_of ts head.channel 0)) (copy_turn head.invariant head.channel 0 (sym (zero-add _)) here (omega (arith, c.loop-channel-test.true)))
-
 pub returns : goal.returns
+unfolding narrow_of
 returns c =
-    let ts = c.args.thresholds.now in
-    let all = length-map ts narrow_of in
-    copy_end c.loop-channel.invariant (omega (arith, all, c.requires, c.loop-channel-test.false)) ∙ splice_all _ (map narrow_of ts) (omega (arith, all, c.requires))
-
-pub loop-channel-init : goal.loop-channel-init
-loop-channel-init c = copy_start _ _ _
+    let ts = c.args.thresholds in
+    let made = c.map.ensures.items in
+    same_number_lists c.map.result (map narrow_of ts) (omega (arith, made.long, length-map ts narrow_of, c.well_formed)) (λ i h.
+    let called = made.at i 0 0 (omega (arith, h, made.long)) in
+    let now : get_or c.map.result i 0 ≡ narrow_of (get_or ts i 0) = search (rules, called.2) in
+    now ∙ sym (get_or-map narrow_of ts i 0))

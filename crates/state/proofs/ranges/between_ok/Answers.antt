@@ -4,4 +4,4 @@ use Rattle.state.proofs.ranges.between_ok.Goals as goal
 
 pub returns : goal.returns
 unfolding phase_ok
-returns c = rw (c.in_block_ok-block.ensures, c.no_marks-clear.ensures)
+returns c = rw (c.in_block_ok.ensures, c.no_marks.ensures)

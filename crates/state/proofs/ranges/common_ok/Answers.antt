@@ -4,4 +4,4 @@ use Rattle.state.proofs.ranges.common_ok.Goals as goal
 
 pub returns : goal.returns
 unfolding common_ok scalers_ok
-returns c = rw c.in_range-good.ensures
+returns c = rw c.in_range.ensures

@@ -4,4 +4,4 @@ use Rattle.state.proofs.ranges.during_ok.Goals as goal
 
 pub returns : goal.returns
 unfolding phase_ok
-returns c = rw (c.in_block_ok-block.ensures, c.event_ok-event.ensures)
+returns c = rw (c.in_block_ok.ensures, c.event_ok.ensures)

@@ -4,4 +4,4 @@ use Rattle.state.proofs.ranges.idle_ok.Goals as goal
 
 pub returns : goal.returns
 unfolding phase_ok
-returns c = rw c.no_marks-clear.ensures
+returns c = rw c.no_marks.ensures

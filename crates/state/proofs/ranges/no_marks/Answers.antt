@@ -1,15 +1,11 @@
--- `state::ranges::no_marks` meets its contract. The invariant: what was asked and what is left are the whole. Assumes nothing.
-use Rattle.std.proofs.Common.{refl}
-use Rattle.state.specs.CodeLaws.{clear_turn, clear_end}
+-- `state::ranges::no_marks` meets its contract: the fold joins the tests of all marks. Assumes nothing.
+use Rattle.std.proofs.Common.{true, not, ◌&&◌, ◌∙◌, rules, tests}
+use Rattle.std.proofs.lemmas.Iterator.{YieldsList-from_slice}
+use Rattle.std.proofs.lemmas.Iterator.Consumers.{fold_from_yields_List}
+use Rattle.state.specs.CodeLaws.{no_marks_fold}
 use Rattle.state.proofs.ranges.no_marks.Goals as goal
 
-pub loop-channel-preserved : goal.loop-channel-preserved
-loop-channel-preserved c =
-    let head = c.loop-channel in
-    clear_turn _ head.clear head.channel head.invariant c.loop-channel-test.true
-
 pub returns : goal.returns
-returns c = clear_end _ _ _ c.loop-channel.invariant c.loop-channel-test.false
-
-pub loop-channel-init : goal.loop-channel-init
-loop-channel-init c = refl
+returns c =
+    let posted = c.args.posted.now in
+    fold_from_yields_List _ (λ clear mark. clear && not mark) true _ c.fold.ensures.ran (YieldsList-from_slice posted cc) (λ a x b q k. search (rules, tests)) ∙ no_marks_fold posted

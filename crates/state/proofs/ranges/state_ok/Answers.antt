@@ -4,4 +4,4 @@ use Rattle.state.proofs.ranges.state_ok.Goals as goal
 
 pub returns : goal.returns
 unfolding state_ok
-returns c = rw (c.phase_ok-phase.ensures, c.common_ok-good.ensures)
+returns c = rw (c.phase_ok.ensures, c.common_ok.ensures)
