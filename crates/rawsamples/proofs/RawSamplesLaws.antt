@@ -1,6 +1,6 @@
 -- The samples of pairs put in an array, pair by pair. Assumes nothing.
 use Rattle.std.specs.Prelude.{ℕ, ◌+◌, ◌*◌, ◌^◌, ◌≤◌, ◌<◌, min, ◌≡◌, Bool, true, false, cond, List, [], ◌∷◌, ◌++◌, eqb, leb, length, drop, take, get_or}
-use Rattle.std.proofs.Common.{sym, ◌∙◌, arith, add-one, eq-eqb, ne_eqb, drop_of_length-le, length-append, length-take, drop-cons}
+use Rattle.std.proofs.Common.{◌∙◌, arith, add-one, drop_of_length-le, length-append, length-take, drop-cons}
 use Rattle.std.proofs.Math.Path.{ap}
 use Rattle.ground.specs.ResultLaws.{one_result}
 use Rattle.fields.specs.Word.{read}
@@ -10,18 +10,13 @@ use Rattle.raw.specs.Words.{pair_of}
 use Rattle.rawitems.specs.declared.Pairs.{Pairs}
 use Rattle.rawitems.specs.Pairs.{part_of}
 use Rattle.written.specs.Page.{Page, farthest, put}
-use Rattle.written.specs.PageLaws.{put_nil, put_append, put_then, none_put, none_count, short, fitting}
+use Rattle.written.specs.PageLaws.{put_nil, put_append, put_then, none_put, none_count, short, fitting, put_here, put_past, put_stay}
 use Rattle.rawsamples.specs.RawSamples.{if_valid, samples_of_pair, samples_of}
 use Rattle.rawsamples.specs.Says.{SamplesSay}
 
 -- ---- one sample
 
--- one that is marked not valid is left out
-pub marked : (p : Page) (flag sample : ℕ) → (flag ≡ 0 → ⊥) → p ≡ put p (if_valid flag sample)
-marked p flag sample h = rw (ne_eqb flag 0 h) (sym (put_nil p))
-
-pub unmarked : (p q : Page) (flag sample : ℕ) → flag ≡ 0 → q ≡ put p (sample ∷ []) → q ≡ put p (if_valid flag sample)
-unmarked p q flag sample h e = rw (eq-eqb flag 0 h) e
+pub ruleset one_sample = (put_here, put_past, put_stay, put_nil)
 
 -- ---- one pair
 
@@ -39,6 +34,8 @@ module _ (word : ℕ) {r : SamplePair} (h : r ≡ pair_of word) where
   unfolding pair_of
   both_put a b c e f = put_then a b c _ _ e f ∙ ap (λ (p : SamplePair). put a (if_valid p.nofirst p.first ++ if_valid p.nosecond p.second)) h
 
+pub ruleset one_pair = (first_small, second_small, both_put)
+
 -- ---- pairs: a turn, and the end
 
 pub pairs_turn : (p q : Page) (words : List ℕ) (i : ℕ) → i < length words → q ≡ put p (samples_of_pair (get_or words i 0)) → put p (samples_of (drop i words)) ≡ put q (samples_of (drop (i + 1) words))
@@ -51,6 +48,8 @@ pairs_turn p q words i h e =
 pub pairs_done : (p : Page) (words : List ℕ) (i : ℕ) → length words ≤ i → put p (samples_of (drop i words)) ≡ p
 unfolding samples_of
 pairs_done p words i h = ap (λ (l : List ℕ). put p (samples_of l)) (drop_of_length-le words h) ∙ put_nil p
+
+pub ruleset pair_by_pair = (pairs_turn, pairs_done)
 
 -- ---- how many
 

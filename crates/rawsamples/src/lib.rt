@@ -13,6 +13,7 @@ use rawitems::Pairs;
 use text::FARTHEST;
 
 // A sample of thirteen bits, where its flag does not say "not valid".
+#[tactic(auto, using(crate::proofs::RawSamplesLaws::one_sample))]
 fn put_sample(out: &mut [u16], at: usize, flag: u32, sample: u32) -> usize
     requires { sample < 65536 }
     ensures { (out.new, result) ≡ put (out.old, at) (if_valid flag sample) }
@@ -28,6 +29,7 @@ fn put_sample(out: &mut [u16], at: usize, flag: u32, sample: u32) -> usize
 }
 
 // "29 first not valid, 28-16 first sample, .. 13 second not valid, 12-0 second"
+#[tactic(auto, using(crate::proofs::RawSamplesLaws::one_pair))]
 fn put_pair(out: &mut [u16], at: usize, word: u32) -> usize
     ensures { (out.new, result) ≡ put (out.old, at) (samples_of_pair word) }
 {
@@ -36,14 +38,13 @@ fn put_pair(out: &mut [u16], at: usize, word: u32) -> usize
     put_sample(out, second, pair.nosecond, pair.second)
 }
 
+#[tactic(auto, using(crate::proofs::RawSamplesLaws::pair_by_pair))]
 fn put_pairs(words: &[u32], out: &mut [u16]) -> usize
     ensures { (out.new, result) ≡ put (out.old, 0) (samples_of words.now) }
 {
-    let mut i = 0;
     let mut at: usize = 0;
-    while i < words.len() {
-        at = put_pair(out, at, words[i]);
-        i += 1;
+    for word in words {
+        at = put_pair(out, at, *word);
     }
     at
 }
