@@ -10,7 +10,7 @@ use Rattle.pulse.specs.Pulse.{pulse_length}
 use Rattle.modes.specs.Channel.{Common, parts_of, pulses_of}
 
 -- the pulses that stand in the three places
-unfoldable pub listed : Pulses → List Pulse
+abbrev pub listed : Pulses → List Pulse
 listed found = take found.count found.pulses
 
 -- the pulses are of a window of n samples, and there are no more than the places
