@@ -10,7 +10,7 @@ use Rattle.items.specs.Items.{words_of}
 use Rattle.items.specs.declared.Item.{Item}
 use Rattle.items.specs.declared.Item.TheVariants as I
 use Rattle.pulse.specs.declared.Parts.{Parts}
-pub use Rattle.modes.specs.declared.Common.{Common}
+use Rattle.modes.specs.declared.Common.{Common}
 use Rattle.pulse.specs.Pulse.{pulse_items, set_length}
 
 -- ---- samples

@@ -7,7 +7,8 @@ use Rattle.search.specs.Search.{any_over}
 use Rattle.finder.specs.RangeLaws.{EachFits}
 use Rattle.pulse.specs.declared.Parts.{Parts}
 use Rattle.pulse.specs.Pulse.{pulse_length}
-use Rattle.modes.specs.Channel.{Common, parts_of, pulses_of}
+use Rattle.modes.specs.declared.Common.{Common}
+use Rattle.modes.specs.Channel.{parts_of, pulses_of}
 
 -- the pulses that stand in the three places
 abbrev pub listed : Pulses → List Pulse

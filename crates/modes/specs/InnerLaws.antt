@@ -17,7 +17,8 @@ use Rattle.pulse.specs.Pulse.{pulse_items, set_length, pulse_length, fits_in}
 use Rattle.pulse.specs.PulseLaws.{length_if, length_pulse, fits_in_lem}
 use Rattle.pairs.specs.PairsLaws.{length_pairs}
 use Rattle.items.specs.declared.Item.{Item}
-use Rattle.modes.specs.Channel.{window_items, parts_of, of_pulses, limit_for, pulses_items, Common, pulses_of, channel_items}
+use Rattle.modes.specs.declared.Common.{Common}
+use Rattle.modes.specs.Channel.{window_items, parts_of, of_pulses, limit_for, pulses_items, pulses_of, channel_items}
 use Rattle.modes.specs.Inner.{listed, InWindow, pulses_length, channel_length}
 
 -- ---- the three places
