@@ -85,13 +85,10 @@ fn put_fillers(words: &mut [u32], at: usize, slot: u32, count: usize) -> usize
     requires { at + count ≤ length words.old }
     ensures { Written words.old at (words_of (replicate count (I.Filler (record { slot = slot })))) result words.new }
 {
-    let mut next = at;
-    let mut left = count;
-    while 0 < left {
-        next = put_item(words, next, Item::Filler(Filler { slot }));
-        left -= 1;
-    }
-    next
+    let end = at + count;
+    let filler = Item::Filler(Filler { slot });
+    words[at..end].fill(filler.build());
+    end
 }
 
 fn put_last(words: &mut [u32], at: usize, settings: Settings) -> usize

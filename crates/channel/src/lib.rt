@@ -1,23 +1,21 @@
 // The words of one channel, put into a lent buffer.
 #![tactic(auto)]
 
-ghost use Rattle.std.specs.Prelude.{◌≡◌, true, cond, [], ◌+◌, ◌≤◌, ltb, length};
+ghost use Rattle.std.specs.Prelude.{◌≡◌, true, cond, None, [], ◌+◌, ◌≤◌, ltb, length};
 ghost use Rattle.ground.specs.Splice.{Written, WrittenIf};
 ghost use Rattle.limits.specs.Limits.{most_samples};
 ghost use Rattle.search.specs.Search.{tc_from};
 ghost use Rattle.timing.specs.ByBase.{base_of};
-ghost use Rattle.finder.specs.Find.{pulses_from, searchable};
+ghost use Rattle.finder.specs.Find.{searchable};
 ghost use Rattle.items.specs.Items.{words_of};
-ghost use Rattle.modes.specs.Channel.{window_items, pulses_items, common_of, channel_items, channel_words};
+ghost use Rattle.modes.specs.Channel.{window_items, pulses_items, pulses_of, channel_items, channel_words};
 ghost use Rattle.modes.specs.Inner.{channel_length};
-ghost use Rattle.channel.specs.Inner.{no_base};
 
 use items::Item;
 use items::put::room_short;
+use modes::Common;
 use pulse::Parts;
 use raw::window::WindowRaw;
-use settings::Settings;
-use timing::Base;
 
 // The TC that the search from s finds; the first one was found before.
 fn tc_after(first: usize, row: &[u16], threshold: u32, s: usize) -> usize
@@ -32,16 +30,13 @@ fn tc_after(first: usize, row: &[u16], threshold: u32, s: usize) -> usize
 }
 
 // The base of the times, where the mode writes one.
-fn base_if(on: bool, row: &[u16], threshold: u32) -> Base
-    ensures { result ≡ cond on (base_of row.now threshold) no_base }
+fn base_if(on: bool, row: &[u16], threshold: u32) -> Option<u32>
+    ensures { result ≡ cond on (base_of row.now threshold) None }
 {
     if on {
         timing::base_of(row, threshold)
     } else {
-        Base {
-            early: true,
-            low: 0,
-        }
+        None
     }
 }
 
@@ -50,33 +45,29 @@ fn put_pulses(
     words: &mut [u32],
     at: usize,
     parts: Parts,
-    nsb: usize,
-    nsa: usize,
-    limit: usize,
+    common: Common,
     threshold: u32,
     channel: u32,
     row: &[u16],
     first: usize,
 ) -> usize
-    requires limit_value { (searchable (length row.now) nsa limit ≡ true) × (first ≡ tc_from row.now threshold 0) }
-    requires limit_in_bounds { at + length (pulses_items parts channel row.now 0 (pulses_from row.now threshold nsb nsa limit 0)) ≤ length words.old }
-    ensures { Written words.old at (words_of (pulses_items parts channel row.now 0 (pulses_from row.now threshold nsb nsa limit 0))) result words.new }
+    requires limit_value { (searchable (length row.now) common.nsa common.limit ≡ true) × (first ≡ tc_from row.now threshold 0) }
+    requires limit_in_bounds { at + length (pulses_items parts channel row.now 0 (pulses_of common threshold row.now)) ≤ length words.old }
+    ensures { Written words.old at (words_of (pulses_items parts channel row.now 0 (pulses_of common threshold row.now))) result words.new }
 {
     let sums = parts.integral;
     let times = parts.high | parts.pedestal;
     let base = base_if(times, row, threshold);
     let mut next = at;
-    let mut i = 0;
     let mut s = 0;
-    while i < limit {
+    for i in 0..common.limit {
         let tc = tc_after(first, row, threshold, s);
         if tc == 0 {
             return next;
         }
-        let pulse = finder::pulse_with(row, threshold, nsb, nsa, tc, sums, times, base);
+        let pulse = finder::pulse_with(row, threshold, common.nsb, common.nsa, tc, sums, base);
         next = pulse::put_pulse(words, next, parts, channel, row, i as u32, pulse);
-        i += 1;
-        s = tc + nsa;
+        s = tc + common.nsa;
     }
     next
 }
@@ -99,74 +90,54 @@ fn put_window_if(words: &mut [u32], at: usize, on: bool, channel: u32, row: &[u1
 fn put_found(
     words: &mut [u32],
     at: usize,
-    mode: u32,
-    nsb: usize,
-    nsa: usize,
-    limit: usize,
+    common: Common,
     threshold: u32,
     channel: u32,
     row: &[u16],
     first: usize,
 ) -> usize
-    requires limit_value { (searchable (length row.now) nsa limit ≡ true) × (first ≡ tc_from row.now threshold 0) × (1 ≤ first) }
-    requires row_in_bounds { at + length (channel_items (record { mode = mode; nsb = nsb; nsa = nsa; limit = limit }) threshold channel row.now) ≤ length words.old }
-    ensures { Written words.old at (channel_words (record { mode = mode; nsb = nsb; nsa = nsa; limit = limit }) threshold channel row.now) result words.new }
+    requires limit_value { (searchable (length row.now) common.nsa common.limit ≡ true) × (first ≡ tc_from row.now threshold 0) × (1 ≤ first) }
+    requires row_in_bounds { at + length (channel_items common threshold channel row.now) ≤ length words.old }
+    ensures { Written words.old at (channel_words common threshold channel row.now) result words.new }
 {
-    let parts = modes::parts_of(mode);
-    let most = modes::limit_for(parts, limit);
+    let parts = modes::parts_of(common.mode);
+    let limit = modes::limit_for(parts, common.limit);
     let window = put_window_if(words, at, parts.window, channel, row);
+    let written = Common { limit, ..common };
     put_pulses(
-        words, window, parts, nsb, nsa, most, threshold, channel, row, first,
+        words, window, parts, written, threshold, channel, row, first,
     )
 }
 
 // Fewer words are left than the channel takes. Where there is room for the longest in the mode, nothing is counted.
-fn channel_short(
-    room: usize,
-    at: usize,
-    mode: u32,
-    nsb: usize,
-    nsa: usize,
-    limit: usize,
-    threshold: u32,
-    row: &[u16],
-) -> bool
-    requires { searchable (length row.now) nsa limit ≡ true }
-    ensures { result ≡ ltb room (at + channel_length (record { mode = mode; nsb = nsb; nsa = nsa; limit = limit }) threshold row.now) }
+fn channel_short(room: usize, at: usize, common: Common, threshold: u32, row: &[u16]) -> bool
+    requires { searchable (length row.now) common.nsa common.limit ≡ true }
+    ensures { result ≡ ltb room (at + channel_length common threshold row.now) }
 {
-    if !room_short(room, at, modes::most_words(mode, row.len())) {
-        return false;
-    }
-    let count = modes::common_length(mode, nsb, nsa, limit, threshold, row);
-    room_short(room, at, count)
+    room_short(room, at, modes::most_words(common.mode, row.len()))
+        && room_short(room, at, modes::channel_length(common, threshold, row))
 }
 
 // The words of a channel: of the common settings, its own threshold, its number and its window. Without a sample over there are none.
 pub fn put_channel(
     words: &mut [u32],
     at: usize,
-    settings: Settings,
+    common: Common,
     threshold: u32,
     channel: u32,
     row: &[u16],
 ) -> usize
-    ensures { WrittenIf (searchable (length row.now) settings.nsa settings.limit) words.old at (channel_words (common_of settings) threshold channel row.now) result words.new }
+    ensures { WrittenIf (searchable (length row.now) common.nsa common.limit) words.old at (channel_words common threshold channel row.now) result words.new }
 {
-    let mode = settings.mode;
-    let nsb = settings.nsb;
-    let nsa = settings.nsa;
-    let limit = settings.limit;
-    if !finder::can_search(row.len(), nsa, limit) {
+    if !finder::can_search(row.len(), common.nsa, common.limit) {
         return at;
     }
     let first = search::tc_from(row, threshold, 0);
     if first == 0 {
         return at;
     }
-    if channel_short(words.len(), at, mode, nsb, nsa, limit, threshold, row) {
+    if channel_short(words.len(), at, common, threshold, row) {
         return at;
     }
-    put_found(
-        words, at, mode, nsb, nsa, limit, threshold, channel, row, first,
-    )
+    put_found(words, at, common, threshold, channel, row, first)
 }

@@ -28,8 +28,5 @@ pub fn put_if(words: &mut [u32], at: usize, on: bool, item: Item) -> usize
 pub fn room_short(room: usize, at: usize, count: usize) -> bool
     ensures { result ≡ ltb room (at + count) }
 {
-    if room < at {
-        return true;
-    }
-    room - at < count
+    room < at || room - at < count
 }

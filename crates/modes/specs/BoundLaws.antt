@@ -12,7 +12,8 @@ use Rattle.finder.specs.FindLaws.{Searched, searched}
 use Rattle.finder.specs.RangeLaws.{PulseFits, EachFits, pulses_fit, pulses_count}
 use Rattle.pulse.specs.declared.Parts.{Parts}
 use Rattle.pulse.specs.Pulse.{set_length, pulse_length}
-use Rattle.modes.specs.Channel.{mode_table, row_of_mode, parts_of, Common, common_of, pulses_of, parts_most, mode_most}
+use Rattle.modes.specs.declared.Common.{Common}
+use Rattle.modes.specs.Channel.{mode_table, row_of_mode, parts_of, common_of, pulses_of, parts_most, mode_most}
 use Rattle.modes.specs.Inner.{listed, InWindow, pulses_length, channel_length}
 use Rattle.modes.specs.InnerLaws.{length_listed}
 

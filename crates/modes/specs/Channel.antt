@@ -10,6 +10,7 @@ use Rattle.items.specs.Items.{words_of}
 use Rattle.items.specs.declared.Item.{Item}
 use Rattle.items.specs.declared.Item.TheVariants as I
 use Rattle.pulse.specs.declared.Parts.{Parts}
+use Rattle.modes.specs.declared.Common.{Common}
 use Rattle.pulse.specs.Pulse.{pulse_items, set_length}
 
 -- ---- samples
@@ -60,12 +61,6 @@ pulses_items m c w i (p ∷ ps) = pulse_items m c w i p ++ pulses_items m c w (i
 -- ---- one channel
 
 -- the settings that all channels share and that decide a channel's words
-pub record Common : Type 0 where
-  pub mode : ℕ
-  pub nsb : ℕ
-  pub nsa : ℕ
-  pub limit : ℕ
-
 abbrev pub common_of : Settings → Common
 common_of s = record { mode = s.mode; nsb = s.nsb; nsa = s.nsa; limit = s.limit }
 

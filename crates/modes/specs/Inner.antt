@@ -7,10 +7,11 @@ use Rattle.search.specs.Search.{any_over}
 use Rattle.finder.specs.RangeLaws.{EachFits}
 use Rattle.pulse.specs.declared.Parts.{Parts}
 use Rattle.pulse.specs.Pulse.{pulse_length}
-use Rattle.modes.specs.Channel.{Common, parts_of, pulses_of}
+use Rattle.modes.specs.declared.Common.{Common}
+use Rattle.modes.specs.Channel.{parts_of, pulses_of}
 
 -- the pulses that stand in the three places
-unfoldable pub listed : Pulses → List Pulse
+abbrev pub listed : Pulses → List Pulse
 listed found = take found.count found.pulses
 
 -- the pulses are of a window of n samples, and there are no more than the places

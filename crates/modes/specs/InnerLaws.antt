@@ -1,6 +1,6 @@
 -- Pulses in three places, read in turn; and how many words a channel takes. Assumes nothing.
 use Rattle.std.specs.Prelude.{ℕ, zero, suc, ◌+◌, ◌≤◌, ◌<◌, ◌≡◌, refl, Bool, true, false, cond, ◌&&◌, List, [], ◌∷◌, ◌++◌, ltb, get_or, drop, replicate}
-use Rattle.std.proofs.Common.{sym, ap, ap₂, ◌∙◌, arith, add-one, lt-ltb, drop_of_length-le, length-append, drop-cons, get_or-take, length-take-le}
+use Rattle.std.proofs.Common.{sym, ap, ap₂, ◌∙◌, arith, add-one, lt-ltb, drop_of_length-le, length-append, drop-cons, length-take-le}
 use Rattle.std.proofs.Math.ListN.{length}
 use Rattle.std.proofs.lemmas.List.Edits.{sets-eq}
 use Rattle.ground.specs.TestsLaws.{or_none}
@@ -11,34 +11,22 @@ use Rattle.finder.specs.declared.Pulses.{Pulses}
 use Rattle.search.specs.Search.{over_in, any_over, tc_from}
 use Rattle.finder.specs.Find.{pulses_from, no_pulse, packed, find_all}
 use Rattle.finder.specs.FindLaws.{find_all_lem, Searched, can_search}
-use Rattle.finder.specs.RangeLaws.{PulseFits, EachFits, fits_at, pulses_fit, pulses_count, packed_back}
+use Rattle.finder.specs.RangeLaws.{EachFits, fits_at, pulses_fit, pulses_count, packed_back}
 use Rattle.pulse.specs.declared.Parts.{Parts}
 use Rattle.pulse.specs.Pulse.{pulse_items, set_length, pulse_length, fits_in}
 use Rattle.pulse.specs.PulseLaws.{length_if, length_pulse, fits_in_lem}
 use Rattle.pairs.specs.PairsLaws.{length_pairs}
 use Rattle.items.specs.declared.Item.{Item}
-use Rattle.modes.specs.Channel.{window_items, parts_of, of_pulses, limit_for, pulses_items, Common, pulses_of, channel_items}
+use Rattle.modes.specs.declared.Common.{Common}
+use Rattle.modes.specs.Channel.{window_items, parts_of, of_pulses, limit_for, pulses_items, pulses_of, channel_items}
 use Rattle.modes.specs.Inner.{listed, InWindow, pulses_length, channel_length}
 
 -- ---- the three places
 
 pub length_listed : (found : Pulses) → found.count ≤ length found.pulses → length (listed found) ≡ found.count
-unfolding listed
 length_listed found h = length-take-le found.count found.pulses h
 
-pub listed_at : (found : Pulses) (i : ℕ) (d : Pulse) → i < found.count → get_or (listed found) i d ≡ get_or found.pulses i d
-unfolding listed
-listed_at found i d h = rw get_or-take
-
--- the pulses from i on: the i-th place, then those from i + 1 on
-pub listed_step : (found : Pulses) (i : ℕ) (d : Pulse) → found.count ≤ length found.pulses → i < found.count
-    → drop i (listed found) ≡ get_or found.pulses i d ∷ drop (i + 1) (listed found)
-listed_step found i d h g =
-    let l : i < length (listed found) = rw (length_listed found h) g in
-    drop-cons (listed found) i d l ∙ ap₂ (λ (p : Pulse) (n : ℕ). p ∷ drop n (listed found)) (listed_at found i d g) (sym (add-one i))
-
 pub listed_packed : (l : List Pulse) → length l ≤ 3 → listed (packed l) ≡ l
-unfolding listed
 listed_packed l h = packed_back l h
 
 pub in_window_lem : (n : ℕ) (l : List Pulse) → EachFits n l → length l ≤ 3 → InWindow n (packed l)
@@ -50,13 +38,8 @@ in_window_lem n l e h =
       each = rw (listed_packed l h) e;
     }
 
-pub place_fits : (n : ℕ) (found : Pulses) (i : ℕ) (d : Pulse) → InWindow n found → i < found.count → PulseFits n (get_or found.pulses i d)
-place_fits n found i d r h =
-    let l : i < length (listed found) = rw (length_listed found r.stored) h in
-    rw (listed_at found i d h) at (fits_at n (listed found) i d r.each l)
-
-pub place_in : (n : ℕ) (found : Pulses) (i : ℕ) (d : Pulse) → InWindow n found → n ≤ most_samples → i < found.count → fits_in n (get_or found.pulses i d) ≡ true
-place_in n found i d r l h = fits_in_lem n _ (place_fits n found i d r h) l
+pub place_in : (n : ℕ) (l : List Pulse) (i : ℕ) (d : Pulse) → EachFits n l → n ≤ most_samples → i < length l → fits_in n (get_or l i d) ≡ true
+place_in n l i d e m h = fits_in_lem n _ (fits_at n l i d e h) m
 
 -- ---- how many words
 
@@ -84,18 +67,15 @@ pub any_channel : (s : Common) (t c d : ℕ) (w : List ℕ) → 1 ≤ s.nsa → 
 any_channel s t c d w h = length_channel s t c w h ∙ sym (length_channel s t d w h)
 
 -- the count in turns: what is counted and what is left are the whole
-module _ (m : Parts) (found : Pulses) (stored : found.count ≤ length found.pulses) where
-  pub count_turn : (i n r all : ℕ) (d : Pulse) → r ≡ pulse_length m (get_or found.pulses i d) → i < found.count
-      → n + pulses_length m (drop i (listed found)) ≡ all → n + r + pulses_length m (drop (i + 1) (listed found)) ≡ all
+module _ (m : Parts) (l : List Pulse) where
+  pub count_turn : (i n r all : ℕ) (d : Pulse) → r ≡ pulse_length m (get_or l i d) → i < length l
+      → n + pulses_length m (drop i l) ≡ all → n + r + pulses_length m (drop (i + 1) l) ≡ all
   unfolding pulses_length
-  count_turn i n r all d e g h = let k = rw (listed_step found i d stored g) at h in omega (arith, k, e)
+  count_turn i n r all d e g h = let k = rw (drop-cons l i d g) at h in rw (add-one i) (omega (arith, k, e))
 
-  pub count_end : (i n all : ℕ) → found.count ≤ i → n + pulses_length m (drop i (listed found)) ≡ all → n ≡ all
+  pub count_end : (i n all : ℕ) → length l ≤ i → n + pulses_length m (drop i l) ≡ all → n ≡ all
   unfolding pulses_length
-  count_end i n all g h =
-      let b : length (listed found) ≤ i = omega (arith, length_listed found stored) in
-      let k = rw (drop_of_length-le (listed found) b) at h in
-      omega (arith, k)
+  count_end i n all g h = let k = rw (drop_of_length-le l g) at h in omega (arith, k)
 
 -- ---- a mode that writes nothing of a pulse
 

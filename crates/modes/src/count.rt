@@ -11,11 +11,8 @@ pub(crate) fn pulses_length(parts: Parts, found: Pulses, samples: usize) -> usiz
     ensures { (result ≡ pulses_length parts (listed found)) × (result ≤ 3 * most_pulse) }
 {
     let mut n = 0;
-    let mut i = 0;
-    while i < found.count {
-        let pulse = found.pulses[i];
-        n += pulse::pulse_length(parts, pulse, samples);
-        i += 1;
+    for pulse in &found.pulses[..found.count] {
+        n += pulse::pulse_length(parts, *pulse, samples);
     }
     n
 }

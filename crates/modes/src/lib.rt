@@ -13,6 +13,28 @@ ghost use Rattle.modes.specs.Inner.{channel_length};
 use pulse::Parts;
 use settings::Settings;
 
+// The settings that all channels share and that decide a channel's words.
+#[derive(Clone, Copy)]
+pub struct Common {
+    pub mode: u32,
+    pub nsb: usize,
+    pub nsa: usize,
+    pub limit: usize,
+}
+
+impl From<Settings> for Common {
+    ghost from_gives = { λ s c. c ≡ common_of s };
+
+    fn from(settings: Settings) -> Common {
+        Common {
+            mode: settings.mode,
+            nsb: settings.nsb,
+            nsa: settings.nsa,
+            limit: settings.limit,
+        }
+    }
+}
+
 fn writing(window: bool, raw: bool, integral: bool, time: bool, high: bool, pedestal: bool) -> Parts
     ensures { result ≡ record { window = window; raw = raw; integral = integral; time = time; high = high; pedestal = pedestal } }
 {
@@ -53,20 +75,13 @@ pub fn limit_for(parts: Parts, limit: usize) -> usize
 }
 
 // How many words a channel takes that has a pulse.
-fn count_found(
-    mode: u32,
-    nsb: usize,
-    nsa: usize,
-    limit: usize,
-    threshold: u32,
-    row: &[u16],
-) -> usize
-    requires { (searchable (length row.now) nsa limit ≡ true) × (1 ≤ tc_from row.now threshold 0) }
-    ensures { result ≡ channel_length (record { mode = mode; nsb = nsb; nsa = nsa; limit = limit }) threshold row.now }
+fn count_found(common: Common, threshold: u32, row: &[u16]) -> usize
+    requires { (searchable (length row.now) common.nsa common.limit ≡ true) × (1 ≤ tc_from row.now threshold 0) }
+    ensures { result ≡ channel_length common threshold row.now }
 {
-    let parts = parts_of(mode);
-    let most = limit_for(parts, limit);
-    let found = finder::pulses_of(row, threshold, nsb, nsa, most);
+    let parts = parts_of(common.mode);
+    let most = limit_for(parts, common.limit);
+    let found = finder::pulses_of(row, threshold, common.nsb, common.nsa, most);
     pairs::run_length_if(parts.window, row.len()) + count::pulses_length(parts, found, row.len())
 }
 
@@ -78,41 +93,21 @@ pub fn most_words(mode: u32, samples: usize) -> usize
         let parts = parts_of(mode);
         let window = pairs::run_length_if(parts.window, samples);
         let pulse = pulse::set_length(parts, samples);
-        return window + 3 * pulse;
+        window + 3 * pulse
+    } else {
+        0
     }
-    0
 }
 
-// How many words a channel takes, whatever its number: of the settings that all channels share.
-pub fn common_length(
-    mode: u32,
-    nsb: usize,
-    nsa: usize,
-    limit: usize,
-    threshold: u32,
-    row: &[u16],
-) -> usize
-    ensures { result ≡ cond (searchable (length row.now) nsa limit) (length (channel_items (record { mode = mode; nsb = nsb; nsa = nsa; limit = limit }) threshold 0 row.now)) 0 }
+// How many words a channel takes, whatever its number: none where nothing can be searched.
+pub fn channel_length(common: Common, threshold: u32, row: &[u16]) -> usize
+    ensures { result ≡ cond (searchable (length row.now) common.nsa common.limit) (length (channel_items common threshold 0 row.now)) 0 }
 {
-    if !finder::can_search(row.len(), nsa, limit) {
+    if !finder::can_search(row.len(), common.nsa, common.limit) {
         return 0;
     }
     if !search::any_over(row, threshold) {
         return 0;
     }
-    count_found(mode, nsb, nsa, limit, threshold, row)
-}
-
-// How many words a channel takes: none where nothing can be searched.
-pub fn channel_length(settings: Settings, threshold: u32, row: &[u16]) -> usize
-    ensures { result ≡ cond (searchable (length row.now) settings.nsa settings.limit) (length (channel_items (common_of settings) threshold 0 row.now)) 0 }
-{
-    common_length(
-        settings.mode,
-        settings.nsb,
-        settings.nsa,
-        settings.limit,
-        threshold,
-        row,
-    )
+    count_found(common, threshold, row)
 }

@@ -47,17 +47,13 @@ fn put_pairs(words: &mut [u32], at: usize, samples: &[u16]) -> usize
     requires { at + length (pair_items samples.now) ≤ length words.old }
     ensures { Written words.old at (words_of (pair_items samples.now)) result words.new }
 {
-    let half = samples.len() / 2;
+    let (pairs, odd) = samples.as_chunks::<2>();
     let mut next = at;
-    let mut j = 0;
-    while j < half {
-        let i = 2 * j;
-        next = put_word(words, next, pair_word(samples[i], samples[i + 1]));
-        j += 1;
+    for pair in pairs {
+        next = put_word(words, next, pair_word(pair[0], pair[1]));
     }
-    let i = 2 * half;
-    if i < samples.len() {
-        return put_word(words, next, odd_word(samples[i]));
+    if let Some(last) = odd.first() {
+        return put_word(words, next, odd_word(*last));
     }
     next
 }
@@ -66,7 +62,7 @@ fn put_pairs(words: &mut [u32], at: usize, samples: &[u16]) -> usize
 fn run_length(samples: usize) -> usize
     ensures { result ≡ 1 + pairs_of samples }
 {
-    1 + (samples / 2 + samples % 2)
+    1 + samples.div_ceil(2)
 }
 
 // The same where they are wanted.

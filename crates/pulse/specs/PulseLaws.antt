@@ -1,5 +1,6 @@
 -- How many words a pulse takes, and what a pulse of a window is known by. Assumes nothing.
 use Rattle.std.specs.Prelude.{ℕ, ◌+◌, ◌-◌, ◌≤◌, ◌≡◌, refl, Bool, true, false, cond, List, [], ◌∷◌, leb, length, take, drop}
+use Rattle.std.specs.Int.{from_bool}
 use Rattle.std.proofs.Common.{ap, arith, leb-true, le-leb, length-append, length-take, length-drop}
 use Rattle.ground.specs.Splice.{Written}
 use Rattle.ground.specs.TestsLaws.{every, all_of_lem}
@@ -10,10 +11,15 @@ use Rattle.pairs.specs.PairsLaws.{length_pairs}
 use Rattle.items.specs.declared.Item.{Item}
 use Rattle.items.specs.Items.{word_of, words_of, item_if}
 use Rattle.pulse.specs.declared.Parts.{Parts}
-use Rattle.pulse.specs.Pulse.{set_of, raw_items, integral_item, time_item, pedestal_item, pulse_items, set_length, pulse_length, fits_in}
+use Rattle.pulse.specs.Pulse.{set_of, raw_items, integral_item, time_item, pedestal_item, pulse_items, one_if, set_length, pulse_length, fits_in}
 use Rattle.pulse.specs.Inner.{Fitting, word_if}
 
 -- ---- how many words
+
+-- one word where it is wanted, as the code converts it
+pub one_is : (on : Bool) → from_bool on ≡ one_if on
+one_is true = refl
+one_is false = refl
 
 pub length_set : (w : List ℕ) (p : Pulse) → 1 ≤ p.first → p.last ≤ length w → length (set_of w p) ≡ p.last + 1 - p.first
 unfolding set_of

@@ -7,7 +7,7 @@ ghost use Rattle.std.specs.Prelude.{◌≡◌, cond, [], ◌+◌, ◌≤◌, len
 ghost use Rattle.ground.specs.Splice.{Written, WrittenIf};
 ghost use Rattle.limits.specs.Limits.{most_samples};
 ghost use Rattle.items.specs.Items.{words_of};
-ghost use Rattle.pulse.specs.Pulse.{raw_items, pulse_items, fits_in, one_if, set_length, pulse_length};
+ghost use Rattle.pulse.specs.Pulse.{raw_items, pulse_items, fits_in, set_length, pulse_length};
 ghost use Rattle.pulse.specs.Inner.{Fitting, word_if};
 
 use finder::Pulse;
@@ -39,20 +39,14 @@ fn fits_in(pulse: Pulse, samples: usize) -> bool
         & (samples <= limits::MOST_SAMPLES)
 }
 
-fn one_if(on: bool) -> usize
-    ensures { (result ≡ one_if on) × (result ≤ 1) }
-{
-    if on { 1 } else { 0 }
-}
-
 // How many words the mode writes of a pulse whose data set has so many samples.
 pub fn set_length(parts: Parts, samples: usize) -> usize
     ensures { result ≡ set_length parts samples }
 {
     let run = pairs::run_length_if(parts.raw, samples);
-    let integral = one_if(parts.integral);
-    let time = one_if(parts.time);
-    let pedestal = one_if(parts.pedestal);
+    let integral = usize::from(parts.integral);
+    let time = usize::from(parts.time);
+    let pedestal = usize::from(parts.pedestal);
     run + (integral + (time + pedestal))
 }
 
@@ -99,9 +93,10 @@ fn put_word_if(words: &mut [u32], at: usize, on: bool, word: u32) -> usize
 {
     if on {
         words[at] = word;
-        return at + 1;
+        at + 1
+    } else {
+        at
     }
-    at
 }
 
 // What the mode writes of a pulse that has room.
@@ -165,7 +160,8 @@ pub fn pulse_length(parts: Parts, pulse: Pulse, samples: usize) -> usize
     ensures { result ≡ cond (fits_in samples pulse) (pulse_length parts pulse) 0 }
 {
     if fits_in(pulse, samples) {
-        return fitting_length(parts, pulse);
+        fitting_length(parts, pulse)
+    } else {
+        0
     }
-    0
 }

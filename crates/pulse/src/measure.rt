@@ -1,5 +1,5 @@
 // The words of what is measured of a pulse, with the caps that only the words have. No item is made: its record is built at once.
-ghost use Rattle.std.specs.Prelude.{◌≡◌, cond, ◌≤◌, min, ltb};
+ghost use Rattle.std.specs.Prelude.{◌≡◌, ◌≤◌};
 ghost use Rattle.limits.specs.Limits.{most_samples};
 ghost use Rattle.items.specs.Items.{word_of};
 ghost use Rattle.pulse.specs.Pulse.{integral_item, time_item, pedestal_item};
@@ -10,33 +10,15 @@ use measures::integral::PulseIntegral;
 use measures::pedestal::PulsePedestal;
 use measures::time::PulseTime;
 
-fn at_most(x: u32, most: u32) -> u32
-    ensures { result ≡ min x most }
-{
-    if x < most { x } else { most }
-}
-
 // Quality 1 marks a sum that was cut.
-fn quality(sum: u32) -> u32
-    ensures { result ≡ cond (ltb 524287 sum) 1 0 }
-{
-    if PulseIntegral::SUM_MAX < sum { 1 } else { 0 }
-}
-
-fn either(first: bool, x: u32, y: u32) -> u32
-    ensures { result ≡ cond first x y }
-{
-    if first { x } else { y }
-}
-
 pub(crate) fn integral_word(channel: u32, i: u32, pulse: Pulse) -> u32
     ensures { result ≡ word_of (integral_item channel i pulse) }
 {
     let integral = PulseIntegral {
         channel,
         pulse: i,
-        quality: quality(pulse.sum),
-        sum: at_most(pulse.sum, PulseIntegral::SUM_MAX),
+        quality: u32::from(PulseIntegral::SUM_MAX < pulse.sum),
+        sum: pulse.sum.min(PulseIntegral::SUM_MAX),
     };
     integral.build()
 }
@@ -47,12 +29,17 @@ pub(crate) fn time_word(high: bool, channel: u32, i: u32, pulse: Pulse) -> u32
     ensures { result ≡ word_of (time_item high channel i pulse) }
 {
     let of = pulse.time;
+    let (coarse, fine) = if high {
+        (of.coarse, of.fine)
+    } else {
+        (pulse.tc, 0)
+    };
     let time = PulseTime {
         channel,
         pulse: i,
         quality: 0,
-        coarse: either(high, of.coarse as u32, pulse.tc as u32),
-        fine: either(high, of.fine, 0),
+        coarse: coarse as u32,
+        fine,
     };
     time.build()
 }
@@ -65,7 +52,7 @@ pub(crate) fn pedestal_word(channel: u32, i: u32, pulse: Pulse) -> u32
     let pedestal = PulsePedestal {
         channel,
         pulse: i,
-        vmin: at_most(time.vmin, PulsePedestal::VMIN_MAX),
+        vmin: time.vmin.min(PulsePedestal::VMIN_MAX),
         vpeak: time.vpeak,
     };
     pedestal.build()

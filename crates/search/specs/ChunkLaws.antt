@@ -1,13 +1,14 @@
 -- Laws of the search by chunks: many samples are passed at once. Assumes nothing.
 use Rattle.std.specs.Prelude.{ℕ, zero, suc, ◌+◌, ◌-◌, ◌*◌, ◌/◌, ◌%◌, ◌≤◌, ◌<◌, ◌≡◌, refl, max, Bool, true, false, List, [], ◌∷◌, length, get_or, take, drop, fold}
 use Rattle.std.specs.Simd.{first_chunks}
-use Rattle.std.proofs.Common.{sym, ◌∙◌, arith, le-ltb, zero-mul, suc-mul, drop-drop, add-one, mul-le-mul_right, div-mul-le_self, mod-lt, length-take, length-drop}
+use Rattle.std.proofs.Common.{sym, ◌∙◌, arith, le-ltb, suc-mul, drop-drop, add-one, mul-le-mul_right, div-mul-le_self, mod-lt, length-take, length-drop}
 use Rattle.std.proofs.Math.Nat.{mod-eq-sub-div-mul}
 use Rattle.std.proofs.lemmas.List.{get_or-take, get_or-drop, take_rest}
 use Rattle.std.proofs.lemmas.List.Elements.{All-nil, All-cons}
 use Rattle.samples.specs.Sample.{amp, is_over}
 use Rattle.std.proofs.Math.Bool.{and-true, and-false}
 use Rattle.ground.specs.Search.{least}
+use Rattle.ground.specs.ChunkLaws.{chunk_at}
 use Rattle.ground.specs.SearchLaws.{IsLeast, least_pass, least_here, least_end, least_found, least_none}
 use Rattle.search.specs.Search.{over, starts}
 use Rattle.search.specs.SearchLaws.{starts_after}
@@ -75,13 +76,6 @@ chunk_none w t s k e a n m i h fit g l q f =
     low j x y =
         let z : a + (j - 1 - a) ≡ j - 1 = omega arith in
         rw (get_or-take n (drop a w) (j - 1 - a) 0 (omega arith), get_or-drop a w (j - 1 - a) 0, z) at (h (j - 1 - a) 0 (omega (arith, long)))
-
-chunk_at : (n count i : ℕ) (w d : List ℕ) → i < count → get_or (first_chunks n count w) i d ≡ take n (drop (i * n) w)
-chunk_at n zero i w d l = absurd (omega arith)
-chunk_at n (suc count) zero w d l = rw zero-mul
-chunk_at n (suc count) (suc i) w d l =
-    let z : n + i * n ≡ suc i * n = omega (arith, suc-mul i n) in
-    chunk_at n count i (drop n w) d (omega arith) ∙ rw (drop-drop (i * n) n w, z)
 
 -- the samples after s in chunks: the search may go on behind the i-th, and so behind the next
 pub chunk_next : (w : List ℕ) (t s n i : ℕ) (chunk : List ℕ) → let v : List ℕ = take (length w - s) (drop s w) in s ≤ length w → i < length v / n

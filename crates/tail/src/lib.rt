@@ -18,13 +18,9 @@ fn put_words(words: &mut [u32], at: usize, latched: &[u32]) -> usize
     ensures { Written words.old at (words_of (word_items latched.now)) result words.new }
 {
     let mut next = at;
-    let mut count = 0;
-    while count < latched.len() {
-        let word = ScalerWord {
-            value: latched[count],
-        };
+    for value in latched {
+        let word = ScalerWord { value: *value };
         next = put_item(words, next, Item::Scaler(word));
-        count += 1;
     }
     next
 }

@@ -1,42 +1,25 @@
--- `block::put_fillers` meets its contract: what is left to write is as many fillers. Assumes nothing.
-use Rattle.std.proofs.Common.{ℕ, suc, ◌+◌, ◌-◌, ◌≤◌, ◌<◌, ◌≡◌, refl, ap, [], ◌∷◌, arith, length}
+-- `block::put_fillers` meets its contract: the part that is filled has as many words as fillers. Assumes nothing.
+use Rattle.std.proofs.Common.{ℕ, zero, suc, ◌+◌, ◌-◌, ◌≡◌, refl, ap, List, ◌∷◌, arith, rules, length, replicate, take, drop, length-take, length-drop, drop-drop}
 use lib.ListN.{length-replicate}
-use Rattle.ground.specs.WritingLaws.{Left, left_all, left_room, left_less, left_none, written}
-use Rattle.items.specs.Items.{word_of}
-use Rattle.items.specs.ItemsLaws.{length_words}
-use Rattle.block.proofs.put_fillers.Invariants.{filler, fillers}
+use Rattle.ground.specs.Splice.{splice}
+use Rattle.items.specs.Items.{word_of, words_of}
+use Rattle.items.specs.declared.Item.{Item}
+use Rattle.items.specs.declared.Item.TheVariants as I
 use Rattle.block.proofs.put_fillers.Goals as goal
-use Rattle.block.proofs.put_fillers.Goals.{In-loop-left, Start}
 
--- one of those that are left
-one : (slot left : ℕ) → 0 < left → fillers slot left ≡ word_of (filler slot) ∷ fillers slot (left - 1)
-one slot left h =
-    let e : left ≡ suc (left - 1) = omega arith in
-    ap (fillers slot) e
-
-fit : (c : Start) → let a = c.args in a.at + length (fillers a.slot a.count) ≤ length a.words.now
-fit c = rw (length_words, length-replicate) c.requires
-
-next : (c : In-loop-left) → let a = c.args in
-    Left a.words.now a.at (fillers a.slot a.count) c.loop-left.words c.loop-left.next (word_of (filler a.slot) ∷ fillers a.slot (c.loop-left.left - 1))
-next c = rw (one _ _ c.loop-left-test.true) at c.loop-left.invariant
-
-pub loop-left-preserved : goal.loop-left-preserved
-loop-left-preserved c =
-    let a = c.args in
-    let fits = fit (goal.at.loop-left-preserved c).Start in
-    let all = fillers a.slot a.count in
-    let room = left_room a.words.now a.at all fits _ _ (word_of (filler a.slot) ∷ []) _ (next (goal.at.loop-left-preserved c).In-loop-left) in
-    left_less a.words.now a.at all fits _ _ (word_of (filler a.slot) ∷ []) _ _ _ (next (goal.at.loop-left-preserved c).In-loop-left) (written refl room c.put_item-next.ensures)
-
-pub shape_of-words : goal.shape_of-words
-shape_of-words c = c.loop-left.invariant.size
+words_replicate : (n : ℕ) (x : Item) → words_of (replicate n x) ≡ replicate n (word_of x)
+words_replicate zero x = refl
+words_replicate (suc n) x = ap (λ (ws : List ℕ). word_of x ∷ ws) (words_replicate n x)
 
 pub returns : goal.returns
+unfolding splice
 returns c =
     let a = c.args in
-    let none : c.loop-left.left ≡ 0 = omega arith in
-    left_none a.words.now a.at (fillers a.slot a.count) (fit (goal.at.returns c).Start) _ _ (rw none at c.loop-left.invariant)
-
-pub loop-left-init : goal.loop-left-init
-loop-left-init c = left_all _ _ _
+    let many : a.at + a.count - a.at ≡ a.count = omega arith in
+    let size : length (take (a.at + a.count - a.at) (drop a.at a.words.now)) ≡ a.count = simp (length-take, length-drop) (omega arith) in
+    let filled : c.fill.new.self ≡ replicate a.count c.build.result = rw size at (c.fill.ensures.after (search rules)) in
+    let are = words_replicate a.count (I.Filler (record { slot = a.slot })) in
+    record {
+      place = rw (are, length-replicate);
+      words = rw (are, length-replicate, filled, c.build.ensures, many, drop-drop);
+    }

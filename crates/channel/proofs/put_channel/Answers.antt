@@ -5,7 +5,7 @@ use Rattle.finder.specs.Find.{searchable}
 use Rattle.finder.specs.FindLaws.{searched}
 use Rattle.items.specs.declared.Item.{Item}
 use Rattle.items.specs.ItemsLaws.{put_wrote, put_nothing}
-use Rattle.modes.specs.Channel.{common_of, channel_items}
+use Rattle.modes.specs.Channel.{channel_items}
 use Rattle.modes.specs.Inner.{channel_length}
 use Rattle.modes.specs.InnerLaws.{channel_quiet, length_channel}
 use Rattle.channel.proofs.put_channel.Goals as goal
@@ -17,21 +17,21 @@ returns-then-not-can_search c = not_asked (sym c.can_search.ensures ∙ c.if-not
 pub returns-then-first-eq0 : goal.returns-then-first-eq0
 returns-then-first-eq0 c =
     let a = c.args in
-    rw (channel_quiet (common_of a.settings) a.threshold a.channel a.row.now (sym c.tc_from-first.ensures ∙ c.if-first-eq0.true)) (nothing_new _ _ _)
+    rw (channel_quiet a.common a.threshold a.channel a.row.now (sym c.tc_from-first.ensures ∙ c.if-first-eq0.true)) (nothing_new _ _ _)
 
 -- where the room is asked for
 module _ (c : Else-first-eq0) where
-  asked : searchable (length c.args.row.now) c.args.settings.nsa c.args.settings.limit ≡ true
+  asked : searchable (length c.args.row.now) c.args.common.nsa c.args.common.limit ≡ true
   asked = sym c.can_search.ensures ∙ c.if-not-can_search.false
 
   some : 1 ≤ c.tc_from-first.result
   some = omega (arith, c.if-first-eq0.false)
 
   abbrev items : List Item
-  items = channel_items (common_of c.args.settings) c.args.threshold c.args.channel c.args.row.now
+  items = channel_items c.args.common c.args.threshold c.args.channel c.args.row.now
 
-  size : length items ≡ channel_length (common_of c.args.settings) c.args.threshold c.args.row.now
-  size = length_channel (common_of c.args.settings) c.args.threshold c.args.channel c.args.row.now (searched _ _ _ asked).some
+  size : length items ≡ channel_length c.args.common c.args.threshold c.args.row.now
+  size = length_channel c.args.common c.args.threshold c.args.channel c.args.row.now (searched _ _ _ asked).some
 
 pub channel_short-requires : goal.channel_short-requires
 channel_short-requires c = asked c

@@ -9,10 +9,6 @@ use Rattle.finder.specs.FindLaws.{Searched, searched, is_tc_lem}
 use Rattle.finder.proofs.pulse_with.Goals as goal
 use Rattle.finder.proofs.pulse_with.Goals.{Else-not-can_search-is_tc}
 
-pub returns-then-not-can_search-is_tc : goal.returns-then-not-can_search-is_tc
-returns-then-not-can_search-is_tc c =
-    rw (sym (ap₂ (λ (x y : Bool). x && y) c.can_search.ensures c.is_tc.ensures) ∙ c.if-not-can_search-is_tc.true) c.no_pulse.ensures
-
 -- what the tests say
 module _ (c : Else-not-can_search-is_tc) where
   asked : (searchable (length c.args.window.now) c.args.nsa 0 && is_tc c.args.window.now c.args.threshold c.args.tc) ≡ true

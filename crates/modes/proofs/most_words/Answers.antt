@@ -23,8 +23,8 @@ module _ (c : After-set_length-pulse) where
 pub returns-then-samples-le-MOST_SAMPLES : goal.returns-then-samples-le-MOST_SAMPLES
 returns-then-samples-le-MOST_SAMPLES c = rw (le-leb _ _ (few c)) (sum c)
 
-pub returns : goal.returns
-returns c = rw (lt-leb c.args.samples most_samples (omega (arith, most_samples_lem, c.if-samples-le-MOST_SAMPLES.false)))
+pub returns-else-samples-le-MOST_SAMPLES : goal.returns-else-samples-le-MOST_SAMPLES
+returns-else-samples-le-MOST_SAMPLES c = rw (lt-leb c.args.samples most_samples (omega (arith, most_samples_lem, c.if-samples-le-MOST_SAMPLES.false)))
 
 pub overflow_mul-result : goal.overflow_mul-result
 overflow_mul-result c = omega (arith, small c)

@@ -1,5 +1,5 @@
 -- `modes::parts_of` meets its contract, row by row.
-use Rattle.std.proofs.Common.{ne_eqb}
+use Rattle.std.proofs.Common.{ne_eqb, rules}
 use Rattle.modes.specs.Channel.{parts_of}
 use Rattle.modes.proofs.parts_of.Goals as goal
 
@@ -29,4 +29,6 @@ returns-in-8 c = rw c.in-8.is c.writing-in-8.ensures
 
 pub returns-in_default : goal.returns-in_default
 unfolding parts_of
-returns-in_default c = rw (ne_eqb _ _ c.in_default.in_default-own.rest.0.0.0.0.0.1, ne_eqb _ _ c.in_default.in_default-own.rest.0.0.0.0.1, ne_eqb _ _ c.in_default.in_default-own.rest.0.0.0.1, ne_eqb _ _ c.in_default.in_default-own.rest.0.0.1, ne_eqb _ _ c.in_default.in_default-own.rest.0.1, ne_eqb _ _ c.in_default.in_default-own.rest.1) c.writing-in_default.ensures
+returns-in_default c =
+    let m = c.args.mode in
+    rw (ne_eqb m 1 (search rules), ne_eqb m 2 (search rules), ne_eqb m 3 (search rules), ne_eqb m 4 (search rules), ne_eqb m 7 (search rules), ne_eqb m 8 (search rules)) c.writing-in_default.ensures

@@ -12,5 +12,5 @@ fitting_length-requires c =
 pub returns-then-fits_in : goal.returns-then-fits_in
 returns-then-fits_in c = rw (sym c.fits_in.ensures ∙ c.if-fits_in.true) c.fitting_length.ensures
 
-pub returns : goal.returns
-returns c = rw (sym c.fits_in.ensures ∙ c.if-fits_in.false)
+pub returns-else-fits_in : goal.returns-else-fits_in
+returns-else-fits_in c = rw (sym c.fits_in.ensures ∙ c.if-fits_in.false)

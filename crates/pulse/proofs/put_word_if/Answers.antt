@@ -16,6 +16,6 @@ returns-then-on c =
     let r = rw c.if-on.true at c.requires in
     rw c.if-on.true (record { place = refl; words = set_splice a.words.now a.at a.word (omega (arith, r)) })
 
-pub returns : goal.returns
+pub returns-else-on : goal.returns-else-on
 unfolding word_if
-returns c = rw c.if-on.false (written_nil _ _)
+returns-else-on c = rw c.if-on.false (written_nil _ _)

@@ -1,12 +1,9 @@
 -- `tail::put_words` meets its contract: what is left to write are the counts that are left.
-use Rattle.std.proofs.Common.{◌-◌, length, drop}
+use Rattle.std.proofs.Common.{drop}
 use Rattle.ground.specs.WritingLaws.{Left}
 use Rattle.items.specs.Items.{words_of}
 use Rattle.tail.specs.Tail.{word_items}
 use Rattle.tail.proofs.put_words.Given as goal
 
-abbrev pub invariant-loop-count : goal.invariant-loop-count
-invariant-loop-count l = Left l.initial.words l.at (words_of (word_items l.latched)) l.words l.next (words_of (word_items (drop l.count l.latched)))
-
-abbrev pub decreases-loop-count : goal.decreases-loop-count
-decreases-loop-count l = length l.latched - l.count
+abbrev pub invariant-loop-value : goal.invariant-loop-value
+invariant-loop-value l = Left l.initial.words l.at (words_of (word_items l.latched)) l.words l.next (words_of (word_items (drop l.value-index l.latched)))

@@ -5,4 +5,4 @@ use Rattle.pulse.proofs.measure.pedestal_word.Goals as goal
 
 pub returns : goal.returns
 unfolding word_of pedestal_item
-returns c = cc
+returns c = rw c.min.ensures at c.build.ensures
