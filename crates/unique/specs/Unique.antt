@@ -857,7 +857,11 @@ fadc250_check_unique κs a r s u v p q = by_equation p q
 
 -- ---- from C
 
--- copies
+-- copies, whatever the type of an element
+module _ (T : RattleType) (L : Laws T) (C : IsCopy T) (G : Ghosts T.Denot) (D : Dict) where
+  pub put_copies_unique : Unique (copies_contracts.put.ended T G D) (copies.put.Reads.Learnt T L C G D)
+  put_copies_unique κs a r s u v p q = (refl, λ i. (one_result p q i, u.1))
+
 -- numbers
 pub is_settings_unique : Unique places_contracts.is_settings.ended places.is_settings.Reads.Learnt
 is_settings_unique κs a r s u v p q = by_equation p q
