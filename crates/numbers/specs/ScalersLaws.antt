@@ -12,8 +12,8 @@ use Rattle.ground.specs.TestsLaws.{Under, under_all}
 use Rattle.copies.specs.Copies.{pasted}
 use Rattle.copies.specs.CopiesLaws.{pasted_fits, pasted_none}
 use Rattle.scalers.specs.declared.Scalers.{Scalers}
-use Rattle.places.specs.Places.{most32, counts_at, timer_at, triggers_at, part_at, over_at, latched_at, head_count, scaler_limits, front_limits, front_count, held_in, is_state}
-use Rattle.places.specs.PlacesLaws.{held_parts, held_same, state_count_lem, front_held, front-32}
+use Rattle.places.specs.Places.{most32, counts_at, timer_at, triggers_at, part_at, over_at, latched_at, head_count, scaler_limits, front_limits, front_count, held_in, thresholds_at, is_settings, is_state}
+use Rattle.places.specs.PlacesLaws.{held_parts, held_same, thresholds-16, threshold_at, state_count_lem, front_held, front-32}
 use Rattle.numbers.specs.Numbers.{table, marks_from, scalers_from, marks_number, scaler_numbers, scalers_stored}
 use Rattle.numbers.specs.NumbersLaws.{marks_small}
 use Rattle.numbers.specs.MarksLaws.{marks_back, marks_there, from_place}
@@ -24,6 +24,13 @@ use Rattle.numbers.specs.MarksLaws.{marks_back, marks_there, from_place}
 pub row_under : (m : ℕ) (xs : List ℕ) → ((i : ℕ) → i < length xs → get_or xs i 0 ≤ m) → Under m xs
 row_under m [] h = tt
 row_under m (x ∷ xs) h = (h 0 (omega arith), row_under m xs (λ i k. h (suc i) (omega arith)))
+
+-- the thresholds of settings, each of 32 bits
+pub thresholds_small : (n : List ℕ) → is_settings n ≡ true → Under most32 (take 16 (drop thresholds_at n))
+thresholds_small n e =
+    row_under most32 (take 16 (drop thresholds_at n)) (λ i h.
+    let less : i < 16 = omega (arith, h, thresholds-16 n e) in
+    omega (arith, threshold_at n e i less))
 
 -- a row of a state's numbers: so many, each of 32 bits
 module _ (n : List ℕ) (e : is_state n ≡ true) (at k : ℕ) (fits : at + k ≤ front_count) (wide : (i : ℕ) → i < k → get_or front_limits (at + i) 0 ≡ most32) where

@@ -8,6 +8,7 @@ use places::{is_settings, is_state};
 use scalers::Scalers;
 use settings::Settings;
 use state::{Phase, State};
+use std::array;
 
 // The number at a place.
 fn at(numbers: &[u64], place: usize) -> u64
@@ -25,24 +26,19 @@ fn at32(numbers: &[u64], place: usize) -> u32
     (at(numbers, place) % 4294967296) as u32
 }
 
-fn thresholds_from(numbers: &[u64]) -> [u32; 16]
-    requires { is_settings numbers.now ≡ true }
-    ensures { result ≡ take 16 (drop thresholds_at numbers.now) }
+// Numbers that 32-bit fields hold.
+fn row<const N: usize>(row: &[u64]) -> [u32; N]
+    requires { (length row.now ≡ N) × Under most32 row.now }
+    ensures { result ≡ row.now }
 {
-    let mut thresholds = [0u32; 16];
-    let mut channel: usize = 0;
-    while channel < 16 {
-        thresholds[channel] = at32(numbers, places::THRESHOLDS + channel);
-        channel += 1;
-    }
-    thresholds
+    array::from_fn(|place| (row[place] % 4294967296) as u32)
 }
 
 fn settings_from(numbers: &[u64]) -> Settings
     requires { is_settings numbers.now ≡ true }
     ensures { result ≡ settings_from numbers.now }
 {
-    let thresholds = thresholds_from(numbers);
+    let thresholds = row(&numbers[places::THRESHOLDS..places::SETTINGS]);
     Settings {
         mode: at32(numbers, places::MODE),
         nw: at(numbers, places::NW) as usize,
@@ -63,23 +59,21 @@ pub fn settings_or_none(numbers: &[u64]) -> Settings
     ensures { result ≡ settings_or_none numbers.now }
 {
     if is_settings(numbers) {
-        return settings_from(numbers);
+        settings_from(numbers)
+    } else {
+        state::no_state().settings
     }
-    let none = state::no_state();
-    none.settings
 }
 
 // 0 idle, 1 in a block, 2 in an event.
 fn phase_from(number: u64) -> Phase
     ensures { result ≡ phase_from number }
 {
-    if number == 0 {
-        return Phase::Idle;
+    match number {
+        0 => Phase::Idle,
+        1 => Phase::Block,
+        _ => Phase::Event,
     }
-    if number == 1 {
-        return Phase::Block;
-    }
-    Phase::Event
 }
 
 // Channel c is posted where bit c is set: what is left of the number by 2 ^ (c + 1) is over what is left by 2 ^ c. Two remainders
@@ -91,49 +85,20 @@ fn marks_from(number: u64) -> [bool; 16]
     let low = number as u32;
     let mut marks = [false; 16];
     let mut bit: u32 = 1;
-    let mut channel: usize = 0;
-    while channel < 16 {
+    for channel in 0..16 {
         marks[channel] = low % bit < low % (2 * bit);
         bit = 2 * bit;
-        channel += 1;
     }
     marks
 }
 
-// Numbers that 32-bit fields hold: sixteen of them,
-fn row_16(row: &[u64]) -> [u32; 16]
-    requires { (length row.now ≡ 16) × Under most32 row.now }
-    ensures { result ≡ row.now }
-{
-    let mut fields = [0u32; 16];
-    let mut i: usize = 0;
-    while i < 16 {
-        fields[i] = (row[i] % 4294967296) as u32;
-        i += 1;
-    }
-    fields
-}
-
-// and eighteen.
-fn row_18(row: &[u64]) -> [u32; 18]
-    requires { (length row.now ≡ 18) × Under most32 row.now }
-    ensures { result ≡ row.now }
-{
-    let mut fields = [0u32; 18];
-    let mut i: usize = 0;
-    while i < 18 {
-        fields[i] = (row[i] % 4294967296) as u32;
-        i += 1;
-    }
-    fields
-}
-
+#[tactic(auto, using(places::specs::PlacesLaws::state_count_lem))]
 fn scalers_from(numbers: &[u64]) -> Scalers
     requires { is_state numbers.now ≡ true }
     ensures { result ≡ scalers_from numbers.now }
 {
-    let counts = row_16(&numbers[places::COUNTS..places::TIMER]);
-    let latched = row_18(&numbers[places::LATCHED..places::FRONT]);
+    let counts = row(&numbers[places::COUNTS..places::TIMER]);
+    let latched = row(&numbers[places::LATCHED..places::FRONT]);
     let over = marks_from(at(numbers, places::OVER));
     Scalers {
         counts,
@@ -145,6 +110,7 @@ fn scalers_from(numbers: &[u64]) -> Scalers
     }
 }
 
+#[tactic(auto, using(places::specs::PlacesLaws::state_count_lem))]
 fn state_from(numbers: &[u64]) -> State
     requires { is_state numbers.now ≡ true }
     ensures { result ≡ state_from numbers.now }
@@ -172,7 +138,8 @@ pub fn state_or_none(numbers: &[u64]) -> State
     ensures { result ≡ state_or_none numbers.now }
 {
     if is_state(numbers) {
-        return state_from(numbers);
+        state_from(numbers)
+    } else {
+        state::no_state()
     }
-    state::no_state()
 }

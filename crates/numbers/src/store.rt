@@ -1,10 +1,12 @@
 // The numbers of a state, stored.
 ghost use Rattle.std.specs.Prelude.{◌≡◌, ◌≤◌, length};
-ghost use Rattle.numbers.specs.Numbers.{mark_bit, phase_number, marks_number, head_of, head_stored, scalers_stored, state_stored};
+ghost use Rattle.numbers.specs.Numbers.{phase_number, marks_number, head_of, head_stored, scalers_stored, state_stored};
 
+use limits::{CHANNELS, LATCHED};
 use places::{FRONT, HEAD, SETTINGS, STATE};
 use scalers::Scalers;
 use state::{Phase, State};
+use std::array;
 
 pub fn phase_number(phase: Phase) -> u64
     ensures { result ≡ phase_number phase }
@@ -16,22 +18,14 @@ pub fn phase_number(phase: Phase) -> u64
     }
 }
 
-fn mark_bit(mark: bool) -> u64
-    ensures { result ≡ mark_bit mark }
-{
-    if mark { 1 } else { 0 }
-}
-
 // Bit c is set where channel c is posted.
 fn marks_number(marks: &[bool]) -> u64
     requires { length marks.now ≤ 16 }
     ensures { result ≡ marks_number marks.now }
 {
-    let mut channel = marks.len();
     let mut number: u64 = 0;
-    while 0 < channel {
-        channel -= 1;
-        number = mark_bit(marks[channel]) + 2 * number;
+    for mark in marks.iter().rev() {
+        number = u64::from(*mark) + 2 * number;
     }
     number
 }
@@ -40,18 +34,14 @@ fn marks_number(marks: &[bool]) -> u64
 fn head_of(state: State) -> [u64; HEAD]
     ensures { result ≡ head_of state }
 {
-    let phase = state.phase;
-    let posted = state.posted;
-    let phase_is = phase_number(phase);
-    let marks = marks_number(&posted);
     [
-        phase_is,
-        state.block as u64,
-        state.events as u64,
-        state.event as u64,
+        phase_number(state.phase),
+        u64::from(state.block),
+        u64::from(state.events),
+        u64::from(state.event),
         state.time,
-        marks,
-        state.closed as u64,
+        marks_number(&state.posted),
+        u64::from(state.closed),
         state.words as u64,
     ]
 }
@@ -64,30 +54,12 @@ pub fn put_head(numbers: &mut [u64], state: State)
     copies::put(numbers, 0, &head);
 }
 
-// Counts as numbers of 64 bits: sixteen of them,
-fn wide_16(counts: [u32; 16]) -> [u64; 16]
-    ensures { result ≡ counts }
+// Counts as numbers of 64 bits.
+fn wide<const N: usize>(counts: &[u32]) -> [u64; N]
+    requires { length counts.now ≡ N }
+    ensures { result ≡ counts.now }
 {
-    let mut numbers = [0u64; 16];
-    let mut i: usize = 0;
-    while i < 16 {
-        numbers[i] = counts[i] as u64;
-        i += 1;
-    }
-    numbers
-}
-
-// and eighteen.
-fn wide_18(counts: [u32; 18]) -> [u64; 18]
-    ensures { result ≡ counts }
-{
-    let mut numbers = [0u64; 18];
-    let mut i: usize = 0;
-    while i < 18 {
-        numbers[i] = counts[i] as u64;
-        i += 1;
-    }
-    numbers
+    array::from_fn(|place| u64::from(counts[place]))
 }
 
 // Stores what is counted; all else stays.
@@ -97,18 +69,14 @@ pub fn put_scalers(numbers: &mut [u64], scalers: Scalers)
     if numbers.len() < FRONT {
         return;
     }
-    let over = scalers.over;
-    let running = scalers.counts;
-    let kept = scalers.latched;
-    let marks = marks_number(&over);
-    let counts = wide_16(running);
+    let counts = wide::<CHANNELS>(&scalers.counts);
     let between = [
-        scalers.timer as u64,
-        scalers.triggers as u64,
-        scalers.part as u64,
-        marks,
+        u64::from(scalers.timer),
+        u64::from(scalers.triggers),
+        u64::from(scalers.part),
+        marks_number(&scalers.over),
     ];
-    let latched = wide_18(kept);
+    let latched = wide::<LATCHED>(&scalers.latched);
     copies::put(numbers, places::COUNTS, &counts);
     copies::put(numbers, places::TIMER, &between);
     copies::put(numbers, places::LATCHED, &latched);
@@ -124,8 +92,7 @@ pub fn put_state(numbers: &mut [u64], state: State, settings: &[u64])
     if settings.len() != SETTINGS {
         return;
     }
-    let scalers = state.scalers;
     copies::put(numbers, FRONT, settings);
-    put_scalers(numbers, scalers);
+    put_scalers(numbers, state.scalers);
     put_head(numbers, state);
 }

@@ -9,16 +9,16 @@ unfolding marks_from table
 loop-channel-init c = (refl, (refl, refl))
 
 pub nonzero_rem-marks : goal.nonzero_rem-marks
-nonzero_rem-marks c = (bit_small _ _ c.loop-channel.invariant.1.0 c.loop-channel-test.true).0
+nonzero_rem-marks c = (bit_small _ _ c.loop-channel.invariant.1.0 (omega arith)).0
 
 pub overflow_mul-marks : goal.overflow_mul-marks
-overflow_mul-marks c = omega (arith, (bit_small _ _ c.loop-channel.invariant.1.0 c.loop-channel-test.true).1)
+overflow_mul-marks c = omega (arith, (bit_small _ _ c.loop-channel.invariant.1.0 (omega arith)).1)
 
 pub overflow_mul-bit : goal.overflow_mul-bit
-overflow_mul-bit c = omega (arith, (bit_small _ _ c.loop-channel.invariant.1.0 c.loop-channel-test.true).1)
+overflow_mul-bit c = omega (arith, (bit_small _ _ c.loop-channel.invariant.1.0 (omega arith)).1)
 
 pub nonzero_rem-marks-in-loop-channel : goal.nonzero_rem-marks-in-loop-channel
-nonzero_rem-marks-in-loop-channel c = omega (arith, (bit_small _ _ c.loop-channel.invariant.1.0 c.loop-channel-test.true).0)
+nonzero_rem-marks-in-loop-channel c = omega (arith, (bit_small _ _ c.loop-channel.invariant.1.0 (omega arith)).0)
 
 pub loop-channel-preserved : goal.loop-channel-preserved
 loop-channel-preserved c =

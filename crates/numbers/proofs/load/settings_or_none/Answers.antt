@@ -3,12 +3,9 @@ use Rattle.std.proofs.Common.{sym, ◌∙◌}
 use Rattle.numbers.specs.StoreLaws.{settings_held, settings_none}
 use Rattle.numbers.proofs.load.settings_or_none.Goals as goal
 
-pub settings_from-requires : goal.settings_from-requires
-settings_from-requires c = sym c.is_settings.ensures ∙ c.if-is_settings.true
-
 pub returns-then-is_settings : goal.returns-then-is_settings
 returns-then-is_settings c = settings_held _ (sym c.is_settings.ensures ∙ c.if-is_settings.true) c.settings_from.ensures
 
-pub returns : goal.returns
-returns c =
-    settings_none _ (sym c.is_settings.ensures ∙ c.if-is_settings.false) c.no_state-none.ensures
+pub returns-else-is_settings : goal.returns-else-is_settings
+returns-else-is_settings c =
+    settings_none _ (sym c.is_settings.ensures ∙ c.if-is_settings.false) c.no_state.ensures

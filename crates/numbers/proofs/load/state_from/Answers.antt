@@ -1,15 +1,9 @@
 -- `numbers::load::state_from` meets its contract. Assumes nothing.
 use Rattle.std.proofs.Common.{arith}
 use Rattle.places.specs.Places.{front_count, marks_at}
-use Rattle.places.specs.PlacesLaws.{state_count_lem, state_settings_held, front_held, tail_part}
+use Rattle.places.specs.PlacesLaws.{state_settings_held, front_held, tail_part}
 use Rattle.numbers.specs.StoreLaws.{state_loaded}
 use Rattle.numbers.proofs.load.state_from.Goals as goal
-
-pub slice_bounds-settings_from-count : goal.slice_bounds-settings_from-count
-slice_bounds-settings_from-count c = omega (arith, state_count_lem _ c.requires)
-
-pub slice_bounds-settings_from-start : goal.slice_bounds-settings_from-start
-slice_bounds-settings_from-start c = omega (arith, state_count_lem _ c.requires)
 
 pub settings_from-settings-requires : goal.settings_from-settings-requires
 settings_from-settings-requires c = rw (tail_part c.args.numbers.now front_count) (state_settings_held _ c.requires)
@@ -20,30 +14,3 @@ marks_from-posted-requires c = omega (arith, c.at-2.ensures, front_held _ c.requ
 pub returns : goal.returns
 returns c =
     state_loaded c.args.numbers.now c.requires c.settings_from-settings.ensures c.scalers_from-scalers.ensures c.at.ensures c.phase_from-phase.ensures c.at-2.ensures c.marks_from-posted.ensures c.at32.ensures c.at32-2.ensures c.at32-3.ensures c.at-3.ensures c.at32-4.ensures c.at-4.ensures
-
-pub scalers_from-scalers-requires : goal.scalers_from-scalers-requires
-scalers_from-scalers-requires c = c.requires
-
-pub at-requires : goal.at-requires
-at-requires c = omega (arith, state_count_lem _ c.requires)
-
-pub at-requires-2 : goal.at-requires-2
-at-requires-2 c = omega (arith, state_count_lem _ c.requires)
-
-pub at32-requires : goal.at32-requires
-at32-requires c = omega (arith, state_count_lem _ c.requires)
-
-pub at32-requires-2 : goal.at32-requires-2
-at32-requires-2 c = omega (arith, state_count_lem _ c.requires)
-
-pub at32-requires-3 : goal.at32-requires-3
-at32-requires-3 c = omega (arith, state_count_lem _ c.requires)
-
-pub at-requires-3 : goal.at-requires-3
-at-requires-3 c = omega (arith, state_count_lem _ c.requires)
-
-pub at32-requires-4 : goal.at32-requires-4
-at32-requires-4 c = omega (arith, state_count_lem _ c.requires)
-
-pub at-requires-4 : goal.at-requires-4
-at-requires-4 c = omega (arith, state_count_lem _ c.requires)

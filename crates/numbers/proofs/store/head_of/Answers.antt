@@ -4,4 +4,4 @@ use Rattle.numbers.proofs.store.head_of.Goals as goal
 
 pub returns : goal.returns
 returns c =
-    head_made c.args.state c.phase_number-phase_is.ensures c.marks_number-marks.ensures
+    rw (c.from.ensures, c.from-2.ensures, c.from-3.ensures, c.from-4.ensures) (head_made c.args.state c.phase_number.ensures c.marks_number.ensures)

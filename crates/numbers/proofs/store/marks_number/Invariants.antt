@@ -1,10 +1,6 @@
--- `numbers::store::marks_number` meets its contract. Assumes nothing.
-use Rattle.std.proofs.Common.{◌≤◌, ◌≡◌, length, drop}
-use Rattle.numbers.specs.Numbers.{marks_number}
+-- `numbers::store::marks_number` meets its contract. The invariant: the number is that of the marks behind those left. Assumes nothing.
+use Rattle.numbers.specs.NumbersLaws.{Behind}
 use Rattle.numbers.proofs.store.marks_number.Given as goal
 
-abbrev pub invariant-loop-channel : goal.invariant-loop-channel
-invariant-loop-channel l = (l.channel ≤ length l.marks) × (l.number ≡ marks_number (drop l.channel l.marks))
-
-abbrev pub decreases-loop-channel : goal.decreases-loop-channel
-decreases-loop-channel l = l.channel
+abbrev pub invariant-loop-mark : goal.invariant-loop-mark
+invariant-loop-mark l = Behind l.marks l.mark-iterator.iter.rest.now l.number

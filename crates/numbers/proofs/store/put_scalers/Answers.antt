@@ -1,4 +1,4 @@
--- `numbers::store::put_scalers` meets its contract: the counts, what stands between, the latched counts. Assumes nothing.
+-- `numbers::store::put_scalers` meets its contract. Assumes nothing.
 use Rattle.std.proofs.Common.{◌≡◌, ap, ◌∙◌, rules, length}
 use Rattle.copies.specs.Copies.{pasted}
 use Rattle.places.specs.Places.{counts_at, latched_at}
@@ -19,9 +19,7 @@ returns-then-numbers-lt-FRONT c =
 pub returns : goal.returns
 returns c =
     let s = c.args.scalers in
-    let wide16 = c.wide_16-counts.ensures in
-    let wide18 = c.wide_18-latched.ensures in
-    scalers_stored_lem c.args.numbers.now s (counts_size (goal.at.returns c).Start) (latched_size (goal.at.returns c).Start) c.if-numbers-lt-FRONT.false c.marks_number-marks.ensures
-    (c.put.ensures ∙ ap (pasted c.args.numbers.now counts_at) wide16)
-    c.put-2.ensures
-    (c.put-3.ensures ∙ ap (pasted c.put-2.new.out latched_at) wide18)
+    scalers_stored_lem c.args.numbers.now s (counts_size (goal.at.returns c).Start) (latched_size (goal.at.returns c).Start) c.if-numbers-lt-FRONT.false c.marks_number.ensures
+    (c.put.ensures ∙ ap (pasted c.args.numbers.now counts_at) c.wide-counts.ensures)
+    (rw (c.from.ensures, c.from-2.ensures, c.from-3.ensures) at c.put-2.ensures)
+    (c.put-3.ensures ∙ ap (pasted c.put-2.new.out latched_at) c.wide-latched.ensures)

@@ -10,6 +10,6 @@ pub returns : goal.returns
 returns c =
     let ts = c.args.thresholds.now in
     let frame = c.args.frame.now in
-    made _ _ (λ i. is_over (get_or ts i 0) (get_or frame i 0)) (λ i y q k. search (rules, tests)) c.from_fn.result (overs_of ts frame) 16 c.from_fn.ensures.items
+    made _ _ 16 (λ i. is_over (get_or ts i 0) (get_or frame i 0)) (λ i y q h k. search (rules, tests)) c.from_fn.result (overs_of ts frame) c.from_fn.ensures.items
     (length_overs ts frame (omega (arith, c.requires)) ∙ c.requires.1)
     (λ i d l. overs_at ts frame i d (omega (arith, l, c.requires)) (omega (arith, l, c.requires)))
