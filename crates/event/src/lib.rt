@@ -18,6 +18,7 @@ use framing::trigger_time::TriggerTime;
 use framing::trigger_time_high::TriggerTimeHigh;
 use items::Item;
 use limits::{CHANNELS, LATCHED, TAIL_WORDS};
+use modes::Common;
 use settings::Settings;
 
 // Where the two time words part a time.
@@ -38,7 +39,7 @@ fn put_posted(
     ensures { Written words.old at (words_of (cond posted (channel_items (common_of settings) threshold channel row.now) [])) result words.new }
 {
     if posted {
-        channel::put_channel(words, at, settings, threshold, channel, row)
+        channel::put_channel(words, at, Common::from(settings), threshold, channel, row)
     } else {
         at
     }
@@ -122,7 +123,7 @@ fn posted_length(settings: Settings, posted: bool, threshold: u32, row: &[u16]) 
     ensures { result ≡ cond posted (length (channel_items (common_of settings) threshold 0 row.now)) 0 }
 {
     if posted {
-        modes::channel_length(settings, threshold, row)
+        modes::channel_length(Common::from(settings), threshold, row)
     } else {
         0
     }

@@ -7,4 +7,4 @@ use Rattle.event.proofs.posted_length.Goals as goal
 pub returns-then-posted : goal.returns-then-posted
 returns-then-posted c =
     let a = c.args in
-    rw c.if-posted.true (rw (range_searches a.settings (length a.row.now) (settings_in_range _ c.requires.0) c.requires.1) at c.channel_length.ensures)
+    rw c.if-posted.true (rw (range_searches a.settings (length a.row.now) (settings_in_range _ c.requires.0) c.requires.1) at (rw c.from.ensures at c.channel_length.ensures))

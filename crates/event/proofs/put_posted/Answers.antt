@@ -14,7 +14,7 @@ returns-then-posted c =
     let asked = range_searches a.settings (length a.row.now) (settings_in_range _ c.requires.settings_value.0) c.requires.settings_value.1 in
     rw on
     (put_written (channel_items (common_of a.settings) a.threshold a.channel a.row.now) asked (rw on at c.requires.row_in_bounds)
-    c.put_channel.ensures)
+    (rw c.from.ensures at c.put_channel.ensures))
 
 pub returns-else-posted : goal.returns-else-posted
 returns-else-posted c = rw c.if-posted.false (written_nil _ _)
