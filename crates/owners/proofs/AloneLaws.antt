@@ -26,7 +26,8 @@ use Rattle.items.specs.declared.Item.{Item}
 use Rattle.items.specs.declared.Item.TheVariants as I
 use Rattle.pulse.specs.declared.Parts.{Parts}
 use Rattle.pairs.specs.Pairs.{pair_items}
-use Rattle.modes.specs.Channel.{window_items, parts_of, pulses_items, Common, common_of, pulses_of, channel_items, channel_words}
+use Rattle.modes.specs.declared.Common.{Common}
+use Rattle.modes.specs.Channel.{window_items, parts_of, pulses_items, common_of, pulses_of, channel_items, channel_words}
 use Rattle.pulse.specs.Pulse.{set_of, raw_items, integral_item, time_item, pedestal_item, pulse_items}
 use Rattle.event.specs.Event.{time_items}
 use Rattle.tail.specs.Tail.{word_items, scaler_items, tail_items}

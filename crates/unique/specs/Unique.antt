@@ -626,9 +626,6 @@ limit_for_unique κs a r s u v p q = by_equation p q
 pub most_words_unique : Unique modes_contracts.most_words.ended modes.most_words.Reads.Learnt
 most_words_unique κs a r s u v p q = by_equation p q
 
-pub common_length_unique : Unique modes_contracts.common_length.ended modes.common_length.Reads.Learnt
-common_length_unique κs a r s u v p q = by_equation p q
-
 pub channel_length_unique : Unique modes_contracts.channel_length.ended modes.channel_length.Reads.Learnt
 channel_length_unique κs a r s u v p q = by_equation p q
 
