@@ -32,9 +32,9 @@ pub returns-then-not-is_event : goal.returns-then-not-is_event
 unfolding before_room close_table
 returns-then-not-is_event c = c.out_of_turn.ensures ∙ sym (is_first (turn_missed (state_ok c.args.s) (ap not (sym c.is_event.ensures ∙ c.if-not-is_event.true))))
 
-pub returns-then-good-during_ok : goal.returns-then-good-during_ok
+pub returns-then-common_ok-during_ok : goal.returns-then-common_ok-during_ok
 unfolding before_room close_table
-returns-then-good-during_ok c =
+returns-then-common_ok-during_ok c =
     sym (is_first
     (this_row _ _ (asked c.args.s c.is_event.ensures c.if-not-is_event.false c.common_ok.ensures c.during_ok.ensures ∙ c.if-common_ok-during_ok.true)))
 

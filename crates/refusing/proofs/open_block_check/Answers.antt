@@ -26,9 +26,9 @@ pub returns-then-not-is_idle : goal.returns-then-not-is_idle
 unfolding open_block_number open_block_table
 returns-then-not-is_idle c = c.out_of_turn.ensures ∙ sym (is_first (turn_missed (state_ok c.args.s) (ap not (sym c.is_idle.ensures ∙ c.if-not-is_idle.true))))
 
-pub returns-then-good-idle_ok : goal.returns-then-good-idle_ok
+pub returns-then-common_ok-idle_ok : goal.returns-then-common_ok-idle_ok
 unfolding open_block_number open_block_table
-returns-then-good-idle_ok c =
+returns-then-common_ok-idle_ok c =
     sym (is_first
     (this_row _ _ (asked c.args.s c.is_idle.ensures c.if-not-is_idle.false c.common_ok.ensures c.idle_ok.ensures ∙ c.if-common_ok-idle_ok.true)))
 

@@ -25,9 +25,9 @@ pub returns-then-not-is_block : goal.returns-then-not-is_block
 unfolding open_event_number open_event_table
 returns-then-not-is_block c = c.out_of_turn.ensures ∙ sym (is_first (turn_missed (state_ok c.args.s) (rw (sym c.is_block.ensures ∙ c.if-not-is_block.true))))
 
-pub returns-then-good-between_ok : goal.returns-then-good-between_ok
+pub returns-then-common_ok-between_ok : goal.returns-then-common_ok-between_ok
 unfolding open_event_number open_event_table
-returns-then-good-between_ok c =
+returns-then-common_ok-between_ok c =
     sym (is_first
     (this_row _ _ (asked c.args.s c.is_block.ensures c.if-not-is_block.false c.common_ok.ensures c.between_ok.ensures ∙ c.if-common_ok-between_ok.true)))
 

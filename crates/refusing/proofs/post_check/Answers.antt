@@ -25,9 +25,9 @@ pub returns-then-not-is_event : goal.returns-then-not-is_event
 unfolding post_number post_table
 returns-then-not-is_event c = c.out_of_turn.ensures ∙ sym (is_first (turn_missed (state_ok c.args.s) (ap not (sym c.is_event.ensures ∙ c.if-not-is_event.true))))
 
-pub returns-then-good-during_ok : goal.returns-then-good-during_ok
+pub returns-then-common_ok-during_ok : goal.returns-then-common_ok-during_ok
 unfolding post_number post_table
-returns-then-good-during_ok c =
+returns-then-common_ok-during_ok c =
     sym (is_first
     (this_row _ _ (asked c.args.s c.is_event.ensures c.if-not-is_event.false c.common_ok.ensures c.during_ok.ensures ∙ c.if-common_ok-during_ok.true)))
 
@@ -37,28 +37,28 @@ returns-then-channel-gt15 c =
     sym (is_first (past_2 c.args.s c.is_event.ensures c.if-not-is_event.false c.common_ok.ensures c.during_ok.ensures c.if-common_ok-during_ok.false
     (this_row _ _ (lt-ltb _ _ c.if-channel-gt15.true))))
 
-pub returns-then-window-settings : goal.returns-then-window-settings
+pub returns-then-window-s : goal.returns-then-window-s
 unfolding post_number post_table
-returns-then-window-settings c =
+returns-then-window-s c =
     sym (is_first (past_2 c.args.s c.is_event.ensures c.if-not-is_event.false c.common_ok.ensures c.during_ok.ensures c.if-common_ok-during_ok.false
     (later_row _ (le-ltb _ _ c.if-channel-gt15.false)
-    (this_row _ _ (rw (ne_eqb _ _ c.if-window-settings.true))))))
+    (this_row _ _ (rw (ne_eqb _ _ c.if-window-s.true))))))
 
-pub returns-then-posted-channel : goal.returns-then-posted-channel
+pub returns-then-s-channel : goal.returns-then-s-channel
 unfolding post_number post_table
-returns-then-posted-channel c =
+returns-then-s-channel c =
     sym (is_first (past_2 c.args.s c.is_event.ensures c.if-not-is_event.false c.common_ok.ensures c.during_ok.ensures c.if-common_ok-during_ok.false
     (later_row _ (le-ltb _ _ c.if-channel-gt15.false)
-    (later_row _ (rw (eq-eqb _ _ c.if-window-settings.false))
-    (this_row _ _ (c.if-posted-channel.true))))))
+    (later_row _ (rw (eq-eqb _ _ c.if-window-s.false))
+    (this_row _ _ (c.if-s-channel.true))))))
 
 pub returns-then-store_short : goal.returns-then-store_short
 unfolding post_number post_table
 returns-then-store_short c =
     sym (is_first (past_2 c.args.s c.is_event.ensures c.if-not-is_event.false c.common_ok.ensures c.during_ok.ensures c.if-common_ok-during_ok.false
     (later_row _ (le-ltb _ _ c.if-channel-gt15.false)
-    (later_row _ (rw (eq-eqb _ _ c.if-window-settings.false))
-    (later_row _ (c.if-posted-channel.false)
+    (later_row _ (rw (eq-eqb _ _ c.if-window-s.false))
+    (later_row _ (c.if-s-channel.false)
     (this_row _ _ (rw c.store_short.ensures at c.if-store_short.true)))))))
 
 pub returns-then-not-samples_ok : goal.returns-then-not-samples_ok
@@ -66,8 +66,8 @@ unfolding post_number post_table
 returns-then-not-samples_ok c =
     sym (is_first (past_2 c.args.s c.is_event.ensures c.if-not-is_event.false c.common_ok.ensures c.during_ok.ensures c.if-common_ok-during_ok.false
     (later_row _ (le-ltb _ _ c.if-channel-gt15.false)
-    (later_row _ (rw (eq-eqb _ _ c.if-window-settings.false))
-    (later_row _ (c.if-posted-channel.false)
+    (later_row _ (rw (eq-eqb _ _ c.if-window-s.false))
+    (later_row _ (c.if-s-channel.false)
     (later_row _ (rw c.store_short.ensures at c.if-store_short.false)
     (this_row _ _ (ap not (sym c.samples_ok.ensures ∙ c.if-not-samples_ok.true)))))))))
 
@@ -76,8 +76,8 @@ unfolding post_number post_table
 returns c =
     sym (is_first (past_2 c.args.s c.is_event.ensures c.if-not-is_event.false c.common_ok.ensures c.during_ok.ensures c.if-common_ok-during_ok.false
     (later_row _ (le-ltb _ _ c.if-channel-gt15.false)
-    (later_row _ (rw (eq-eqb _ _ c.if-window-settings.false))
-    (later_row _ (c.if-posted-channel.false)
+    (later_row _ (rw (eq-eqb _ _ c.if-window-s.false))
+    (later_row _ (c.if-s-channel.false)
     (later_row _ (rw c.store_short.ensures at c.if-store_short.false)
     (later_row _ (ap not (sym c.samples_ok.ensures ∙ c.if-not-samples_ok.false))
     (no_row))))))))
