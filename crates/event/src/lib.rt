@@ -57,23 +57,18 @@ fn put_channels(
     requires posted_in_bounds { at + length (channels_items settings store.now 0 posted.now) ≤ length words.old }
     ensures { Written words.old at (words_of (channels_items settings store.now 0 posted.now)) result words.new }
 {
-    let thresholds = settings.thresholds;
-    let nw = settings.nw;
     let mut next = at;
-    let mut channel = 0;
-    while channel < posted.len() {
-        let start = channel * nw;
-        let end = start + nw;
+    for channel in 0..posted.len() {
+        let start = channel * settings.nw;
         next = put_posted(
             words,
             next,
             settings,
             posted[channel],
-            thresholds[channel],
+            settings.thresholds[channel],
             channel as u32,
-            &store[start..end],
+            &store[start..start + settings.nw],
         );
-        channel += 1;
     }
     next
 }
@@ -133,20 +128,15 @@ fn channels_length(settings: Settings, posted: &[bool], store: &[u16]) -> usize
     requires { Lent settings posted.now store.now }
     ensures { result ≡ length (channels_items settings store.now 0 posted.now) }
 {
-    let thresholds = settings.thresholds;
-    let nw = settings.nw;
     let mut n = 0;
-    let mut channel = 0;
-    while channel < posted.len() {
-        let start = channel * nw;
-        let end = start + nw;
+    for channel in 0..posted.len() {
+        let start = channel * settings.nw;
         n += posted_length(
             settings,
             posted[channel],
-            thresholds[channel],
-            &store[start..end],
+            settings.thresholds[channel],
+            &store[start..start + settings.nw],
         );
-        channel += 1;
     }
     n
 }

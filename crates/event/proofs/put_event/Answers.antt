@@ -1,7 +1,6 @@
 -- `event::put_event` meets its contract: what is not lent or has no room is not written.
 use Rattle.std.proofs.Common.{ℕ, ◌+◌, ◌-◌, ◌^◌, ◌≤◌, ◌≡◌, sym, ap, ap₂, ◌∙◌, Bool, true, cond, ◌&&◌, List, ◌++◌, arith, rules, ltb-true, ltb-false, leb-true, leb, ltb, length, length-append}
 use Rattle.ground.specs.TestsLaws.{and_left, and_right}
-use Rattle.ground.specs.WritingLaws.{not_asked}
 use Rattle.limits.specs.Limits.{tail_words}
 use Rattle.items.specs.declared.Item.{Item}
 use Rattle.items.specs.ItemsLaws.{first_room, then_room, then_written, put_wrote, put_nothing}
@@ -35,10 +34,6 @@ module _ (c : Else-not-lent-time) where
       let counts : length c.args.latched ≡ 18 = search rules in
       length-append event tail
       ∙ ap₂ (λ (m n : ℕ). m + n) (length_event c.args.settings c.args.number c.args.time c.args.posted.now c.args.store.now enough.settings) (length_tail c.args.asked c.args.latched counts)
-
-pub returns-then-not-lent-time : goal.returns-then-not-lent-time
-returns-then-not-lent-time c =
-    not_asked (rw c.lent.ensures at c.if-not-lent-time.true)
 
 pub event_short-requires : goal.event_short-requires
 event_short-requires c = enough c

@@ -4,6 +4,3 @@ use Rattle.event.proofs.tail_length.Goals as goal
 
 pub returns-then-asked : goal.returns-then-asked
 returns-then-asked c = rw (c.if-asked.true, tail_words_lem)
-
-pub returns-else-asked : goal.returns-else-asked
-returns-else-asked c = rw c.if-asked.false
