@@ -1,13 +1,13 @@
 -- The demands' theorems suppose of a call what `PostSays` says, or that its answer is `next_at words scan`, and so on. Each is tied here to the code: it is what a caller
 -- learns from the function's own `ensures` (`Reads.Learnt`, of the arguments, the answer `r`, and the arguments as the call leaves them). Assumes nothing.
-use Rattle.std.specs.Prelude.{ℕ, ◌≡◌, Bool, true, false, List}
+use Rattle.std.specs.Prelude.{ℕ, ◌≡◌, Bool, true, false, Option, List}
 use contract.Lifetimes.{Lfts}
 use Rattle.std.specs.Borrow.{Bor, MutBor}
 use Rattle.settings.specs.declared.Settings.{Settings}
 use Rattle.find.proofs as find
 use Rattle.std.specs.declared.result.Result.{Result}
 use Rattle.refusals.specs.declared.Refusal.{Refusal}
-use Rattle.refusals.specs.Refusal.{Outcome}
+use Rattle.refusals.specs.Refusal.{Outcome, told}
 use Rattle.finder.specs.declared.Pulses.{Pulses}
 use Rattle.find.specs.Call.{FindSays}
 use Rattle.writer.proofs as writer
@@ -21,8 +21,11 @@ use Rattle.counting.specs.Counting.{CountSays, LatchSays, ResetSays}
 use Rattle.scan.proofs as scan
 use Rattle.reader.proofs as reader
 use Rattle.scan.specs.declared.Scan.{Scan}
-use Rattle.reader.specs.Step.{Step}
-use Rattle.reader.specs.Judged.{Judged}
+use Rattle.items.specs.declared.Form.{Form}
+use Rattle.items.specs.declared.Item.{Item}
+use Rattle.reader.specs.declared.Refused.{Refused}
+use Rattle.reader.specs.Step.{step_of}
+use Rattle.reader.specs.Judged.{judged_of}
 use Rattle.scan.specs.After.{start_of}
 use Rattle.reader.specs.Reader.{end_number}
 use Rattle.reader.specs.Answers.{StepSays, JudgedSays}
@@ -31,7 +34,8 @@ use Rattle.rawsamples.proofs as rawsamples
 use Rattle.rawsamples.specs.RawSamples.{samples_of}
 use Rattle.rawsamples.specs.Says.{SamplesSay}
 use Rattle.records.proofs as records
-use Rattle.records.specs.NextOf.{Next}
+use Rattle.records.specs.declared.answer.Next.{Next}
+use Rattle.records.specs.NextOf.{next_of}
 use Rattle.rawitems.specs.declared.Pairs.{Pairs}
 use Rattle.rawitems.specs.Pairs.{part_of}
 use Rattle.records.specs.Answers.{NextSays}
@@ -159,16 +163,18 @@ fadc250_check_tied κs bytes r p = p
 pub scan_start_tied : (r : Scan) → scan.Scan.start.Reads.Learnt tt tt r tt → r ≡ start_of
 scan_start_tied r p = p
 
-pub scan_step_tied : (self : Scan) (word : ℕ) (r : Step) → reader.step_at.Reads.Learnt tt (self, (word, tt)) r (self, (word, tt)) → StepSays self word r
+pub scan_step_tied : (self : Scan) (word : ℕ) (r : Result (Option (Form × Scan)) Refused)
+    → reader.step_at.Reads.Learnt tt (self, (word, tt)) r (self, (word, tt)) → StepSays self word (step_of r)
 scan_step_tied self word r p = p
 
-pub scan_judge_tied : (self : Scan) (word : ℕ) (r : Judged) → reader.judge_at.Reads.Learnt tt (self, (word, tt)) r (self, (word, tt)) → JudgedSays self word r
+pub scan_judge_tied : (self : Scan) (word : ℕ) (r : Result (Option (Item × Scan)) Refused)
+    → reader.judge_at.Reads.Learnt tt (self, (word, tt)) r (self, (word, tt)) → JudgedSays self word (judged_of r)
 scan_judge_tied self word r p = p
 
-pub scan_at_end_tied : (self : Scan) (r : ℕ) → reader.at_end.Reads.Learnt tt (self, tt) r (self, tt) → r ≡ end_number self
+pub scan_at_end_tied : (self : Scan) (r : Outcome) → reader.at_end.Reads.Learnt tt (self, tt) r (self, tt) → told r ≡ end_number self
 scan_at_end_tied self r p = p
 
-pub next_tied : (κs : Lfts 1) (words : Reference) (scan : Scan) (r : Next) → records.next.Reads.Learnt κs (words, (scan, tt)) r (words, (scan, tt)) → NextSays words.now scan r
+pub next_tied : (κs : Lfts 1) (words : Reference) (scan : Scan) (r : Result Next Refused) → records.next.Reads.Learnt κs (words, (scan, tt)) r (words, (scan, tt)) → NextSays words.now scan (next_of r)
 next_tied κs words scan r p = p
 
 pub part_tied : (κs : Lfts 1) (words : Reference) (p : Pairs) (r : Reference) → rawitems.part.Reads.Learnt κs (words, (p, tt)) r (words, (p, tt)) → r.now ≡ part_of words.now p

@@ -93,6 +93,8 @@ use Rattle.items.proofs as items
 use Rattle.items.specs.contracts as items_contracts
 use Rattle.items.proofs.Item as Item
 use Rattle.items.specs.contracts.Item as ItemContracts
+use Rattle.refusals.specs.Refusal.{told}
+use Rattle.refusals.specs.RefusalLaws.{told_inj}
 use Rattle.refusals.proofs as refusals
 use Rattle.refusals.specs.contracts as refusals_contracts
 use Rattle.samples.proofs as samples
@@ -148,6 +150,15 @@ use Rattle.questions.proofs as questions
 use Rattle.questions.specs.contracts as questions_contracts
 use Rattle.reader.proofs as reader
 use Rattle.reader.specs.contracts as reader_contracts
+use Rattle.reader.proofs.Refused as Refused
+use Rattle.reader.specs.contracts.Refused as RefusedContracts
+use Rattle.reader.specs.Step.{step_of}
+use Rattle.reader.specs.Judged.{judged_of}
+use Rattle.reader.specs.StepLaws.{step_inj, judged_inj}
+use Rattle.rawitems.specs.Pairing.{pairing_of}
+use Rattle.rawitems.specs.PairingLaws.{pairing_inj}
+use Rattle.records.specs.NextOf.{next_of}
+use Rattle.records.specs.NextOfLaws.{next_inj}
 use Rattle.rawitems.proofs as rawitems
 use Rattle.rawitems.specs.contracts as rawitems_contracts
 use Rattle.rawsamples.proofs as rawsamples
@@ -220,6 +231,10 @@ Unique T Says =
 -- a statement by an equation, where nothing is lent
 by_equation : {A U : Type 0} {x r s : A} {u : U} → r ≡ x → s ≡ x → (r ≡ s) × (u ≡ u)
 by_equation p q = (one_result p q, refl)
+
+-- a statement of what an answer is in the paper's numbers, which tell it from every other
+by_number : {A B U : Type 0} (told : A → B) → ((a b : A) → told a ≡ told b → a ≡ b) → {x : B} {r s : A} {u : U} → told r ≡ x → told s ≡ x → (r ≡ s) × (u ≡ u)
+by_number told same p q = (same _ _ (one_result p q), refl)
 
 -- words written from a place on where they fit, where the words are lent first and `rest` is what follows them
 by_writing : {A U : Type 0} {good : Bool} {words new x y : List A} {at r s : ℕ} (rest : U) → WrittenIf good words at new r x → WrittenIf good words at new s y
@@ -790,17 +805,20 @@ pub pair_bits_wrong_unique : Unique questions_contracts.pair_bits_wrong.ended qu
 pair_bits_wrong_unique κs a r s u v p q = by_equation p q
 
 pub refusal_unique : Unique questions_contracts.refusal.ended questions.refusal.Reads.Learnt
-refusal_unique κs a r s u v p q = by_equation p q
+refusal_unique κs a r s u v p q = by_number told told_inj p q
 
 -- reader
+pub refused_at_unique : Unique RefusedContracts.at.ended Refused.at.Reads.Learnt
+refused_at_unique κs a r s u v p q = by_equation p q
+
 pub step_at_unique : Unique reader_contracts.step_at.ended reader.step_at.Reads.Learnt
-step_at_unique κs a r s u v p q = by_equation p.answer q.answer
+step_at_unique κs a r s u v p q = by_number step_of step_inj p.answer q.answer
 
 pub judge_at_unique : Unique reader_contracts.judge_at.ended reader.judge_at.Reads.Learnt
-judge_at_unique κs a r s u v p q = by_equation p.answer q.answer
+judge_at_unique κs a r s u v p q = by_number judged_of judged_inj p.answer q.answer
 
 pub at_end_unique : Unique reader_contracts.at_end.ended reader.at_end.Reads.Learnt
-at_end_unique κs a r s u v p q = by_equation p q
+at_end_unique κs a r s u v p q = by_number told told_inj p q
 
 -- follow
 pub high_from_unique : Unique follow_contracts.high_from.ended follow.high_from.Reads.Learnt
@@ -811,11 +829,11 @@ fill_from_unique κs a r s u v p q = by_equation p q
 
 -- records
 pub next_unique : Unique records_contracts.next.ended records.next.Reads.Learnt
-next_unique κs a r s u v p q = by_equation p.answer q.answer
+next_unique κs a r s u v p q = by_number next_of next_inj p.answer q.answer
 
 -- rawitems; of `part`, whose answer is a reference, the words that it lends
 pub pairs_from_unique : Unique rawitems_contracts.pairs_from.ended rawitems.pairs_from.Reads.Learnt
-pairs_from_unique κs a r s u v p q = by_equation p q
+pairs_from_unique κs a r s u v p q = by_number pairing_of pairing_inj p q
 
 -- stretches
 pub word_at_unique : Unique stretches_contracts.word_at.ended stretches.word_at.Reads.Learnt
