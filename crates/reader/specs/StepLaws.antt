@@ -1,11 +1,10 @@
 -- Two answers of one step are one. Assumes nothing.
-use Rattle.std.specs.Prelude.{◌≡◌, refl, Bool, true, false, eqb, Option, Some, None}
-use Rattle.std.proofs.Common.{ap, ap₂, eqb-true}
+use Rattle.std.specs.Prelude.{◌≡◌, refl, Option, Some, None}
+use Rattle.std.proofs.Common.{ap, ap₂}
 use Rattle.std.specs.declared.result.Result.{Result}
 use Rattle.std.specs.declared.result.Result.TheVariants.{Ok, Err}
 use Rattle.refusals.specs.Refusal.{number_of}
 use Rattle.refusals.specs.RefusalLaws.{number_inj}
-use Rattle.refusals.specs.declared.Refusal.{Refusal}
 use Rattle.items.specs.declared.Form.{Form}
 use Rattle.items.specs.declared.Item.{Item}
 use Rattle.scan.specs.declared.Scan.{Scan}
