@@ -110,29 +110,17 @@ pub fn state_ok(s: State) -> bool
 pub fn is_idle(phase: Phase) -> bool
     ensures { result ≡ is_idle phase }
 {
-    match phase {
-        Phase::Idle => true,
-        Phase::Block => false,
-        Phase::Event => false,
-    }
+    phase == Phase::Idle
 }
 
 pub fn is_block(phase: Phase) -> bool
     ensures { result ≡ is_block phase }
 {
-    match phase {
-        Phase::Idle => false,
-        Phase::Block => true,
-        Phase::Event => false,
-    }
+    phase == Phase::Block
 }
 
 pub fn is_event(phase: Phase) -> bool
     ensures { result ≡ is_event phase }
 {
-    match phase {
-        Phase::Idle => false,
-        Phase::Block => false,
-        Phase::Event => true,
-    }
+    phase == Phase::Event
 }

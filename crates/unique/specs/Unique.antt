@@ -111,6 +111,8 @@ use Rattle.search.proofs as search
 use Rattle.search.specs.contracts as search_contracts
 use Rattle.timing.proofs as timing
 use Rattle.timing.specs.contracts as timing_contracts
+use Rattle.timing.proofs.Rule as Rule
+use Rattle.timing.specs.contracts.Rule as RuleContracts
 use Rattle.finder.proofs as finder
 use Rattle.finder.specs.contracts as finder_contracts
 use Rattle.find.proofs as find
@@ -573,7 +575,7 @@ pub is_early_unique : Unique search_contracts.is_early.ended search.is_early.Rea
 is_early_unique κs a r s u v p q = by_equation p q
 
 -- timing
-pub rule_number_unique : Unique timing_contracts.rule_number.ended timing.rule_number.Reads.Learnt
+pub rule_number_unique : Unique RuleContracts.number.ended Rule.number.Reads.Learnt
 rule_number_unique κs a r s u v p q = by_equation p q
 
 pub base_of_unique : Unique timing_contracts.base_of.ended timing.base_of.Reads.Learnt
@@ -632,6 +634,9 @@ pub put_pulse_unique : Unique pulse_contracts.put_pulse.ended pulse.put_pulse.Re
 put_pulse_unique κs a r s u v p q = by_writing u.1 p q
 
 -- modes
+pub common_from_unique : Unique modes_contracts.CommonFromSettings.from.ended modes.CommonFromSettings.from.Reads.Learnt
+common_from_unique κs a r s u v p q = by_equation p q
+
 pub parts_of_unique : Unique modes_contracts.parts_of.ended modes.parts_of.Reads.Learnt
 parts_of_unique κs a r s u v p q = by_equation p q
 
