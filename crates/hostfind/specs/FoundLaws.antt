@@ -1,6 +1,6 @@
 -- What the finder's call stores: the pulses found, as numbers. Assumes nothing.
 use Rattle.std.specs.Prelude.{ℕ, ◌+◌, ◌*◌, ◌<◌, ◌≤◌, ◌≡◌, refl, Bool, true, false, cond, List, [], ◌∷◌, ◌++◌, eqb, ltb, length, get_or, replicate}
-use Rattle.std.proofs.Common.{sym, ap, ap₂, ◌∙◌, append_assoc, arith, eqb-true, lt-ltb, le-ltb, length-append}
+use Rattle.std.proofs.Common.{sym, ap, ap₂, ◌∙◌, subst, append_assoc, arith, eqb-true, lt-ltb, le-ltb, length-append}
 use Rattle.std.proofs.Math.Decide.{dec_le}
 use Rattle.std.proofs.lemmas.Bool.{lt-leb}
 use Rattle.limits.specs.Limits.{most_samples}
@@ -9,7 +9,7 @@ use Rattle.ground.specs.Splice.{splice}
 use Rattle.ground.specs.Tests.{first_of}
 use Rattle.ground.specs.SpliceLaws.{splice_splice, length_splice}
 use Rattle.copies.specs.Copies.{pasted}
-use Rattle.copies.specs.CopiesLaws.{pasted_fits}
+use Rattle.copies.specs.CopiesLaws.{pasted_fits, pasted_none}
 use Rattle.settings.specs.declared.Settings.{Settings}
 use Rattle.refusals.specs.Refusal.{number_of, told, bad_array, if_accepted, or_else}
 use Rattle.refusals.specs.RefusalLaws.{none_later}
@@ -162,6 +162,14 @@ module _ (m : List ℕ) (c : ℕ) (w out : List ℕ) {s : Settings} {a : Result 
         number = rw (le-ltb _ _ k) (g ∙ sym (first_number 0 ∙ none_later (told a)));
         numbers = rw (le-ltb _ _ k, g) (e ∙ ap (splice out 0) found_told);
       }
+
+  -- a refused call: its number first, and no pulses where they have room
+  pub find_refused : {r : ℕ} {out' : List ℕ} → eqb (told a) 0 ≡ false → found_in a ≡ packed [] → out' ≡ pasted out 0 (replicate found_count 0) → r ≡ told a → FindFace m c w out r out'
+  find_refused {r} {out'} some none f g =
+      elim (dec_le found_count (length out)) [
+        | yes h ↦ find_face h (none_put out h f ∙ ap (λ (x : Pulses). splice out 0 (found_numbers x)) (sym none)) g
+        | no h ↦ subst (λ (l : List ℕ). FindFace m c w out r l) (sym (f ∙ pasted_none out 0 (replicate found_count 0) (omega arith))) (find_short (g ∙ sym (rw some)) (omega arith))
+      ]
 
 -- numbers that are no settings: no pulses, where they have room
 pub find_none : (m : List ℕ) (c : ℕ) (w out : List ℕ) {r : ℕ} {out' : List ℕ} → is_settings m ≡ false → out' ≡ pasted out 0 (replicate found_count 0) → r ≡ number_of R.Setting
