@@ -1,10 +1,10 @@
 -- An amplitude's limit, over by the amplitude, and a window tested in parts. Assumes nothing.
-use Rattle.std.specs.Prelude.{ℕ, ◌+◌, ◌-◌, ◌≤◌, ◌≡◌, refl, Bool, true, false, ◌&&◌, List, [], ◌∷◌, ◌++◌, leb, ltb, length, take, drop, fold}
+use Rattle.std.specs.Prelude.{ℕ, ◌+◌, ◌-◌, ◌≤◌, ◌<◌, ◌≡◌, refl, Bool, true, false, ◌&&◌, List, [], ◌∷◌, ◌++◌, leb, ltb, length, take, drop, get_or}
 use Rattle.std.proofs.Common.{sym, ap, ◌∙◌, append_assoc, length-append, length-drop, take_all, take-append-drop, arith}
-use Rattle.std.proofs.Math.Bool.{and_assoc}
-use Rattle.std.proofs.lemmas.List.{drop-append-le}
+use Rattle.std.proofs.Math.Bool.{and_assoc, and-true}
+use Rattle.std.proofs.lemmas.List.{take_more, drop-append-le}
 use Rattle.ground.specs.Tests.{all_le}
-use Rattle.ground.specs.TestsLaws.{and_right, all_le_fold}
+use Rattle.ground.specs.TestsLaws.{and_right}
 use Rattle.samples.specs.Sample.{most_sample, samples_ok, amp, most_amp, is_over}
 
 pub amp_le : (x : ℕ) → amp x ≤ most_amp
@@ -15,18 +15,24 @@ pub over_amp : (t x : ℕ) → is_over t x ≡ ltb t (amp x)
 unfolding is_over
 over_amp t x = refl
 
--- ---- a window in one go
-
-pub samples_fold : (w : List ℕ) → fold (λ good x. good && leb x most_sample) true w ≡ samples_ok w
-unfolding samples_ok
-samples_fold w = all_le_fold most_sample w
-
 -- ---- a window in parts
 
 samples_parts : (a b : List ℕ) → samples_ok (a ++ b) ≡ samples_ok a && samples_ok b
 unfolding samples_ok all_le
 samples_parts [] b = refl
 samples_parts (x ∷ a) b = rw (samples_parts a b) (sym (and_assoc (leb x most_sample) (all_le most_sample a) (all_le most_sample b)))
+
+one_sample : (x : ℕ) → samples_ok (x ∷ []) ≡ leb x most_sample
+unfolding samples_ok all_le
+one_sample x = and-true (leb x most_sample)
+
+-- the samples so far, and one more
+pub no_samples : samples_ok [] ≡ true
+unfolding samples_ok all_le
+no_samples = refl
+
+pub samples_more : (w : List ℕ) (i : ℕ) → i < length w → samples_ok (take (i + 1) w) ≡ samples_ok (take i w) && leb (get_or w i 0) most_sample
+samples_more w i h = ap samples_ok (take_more w i 0 h) ∙ samples_parts (take i w) (get_or w i 0 ∷ []) ∙ ap (λ (b : Bool). samples_ok (take i w) && b) (one_sample (get_or w i 0))
 
 -- rest is what is left of the window, but for at most one sample behind it; what is before it passed
 pub record Passed (window rest : List ℕ) : Type 0 where

@@ -26,12 +26,16 @@ pub fn over(threshold: u32, sample: u16) -> bool
 // The samples that are looked at together.
 const CHUNK: usize = 64;
 
-// No sample of the part is over the greatest. No early way out: many are tested at once, most where the length is known.
+// No sample of the part is over the greatest. No early way out: many are tested at once, most where the length is known. Not a
+// fold: that of a chunk is unrolled before it is laid across vectors, and takes a tenth more instructions.
 fn part_ok(part: &[u16]) -> bool
     ensures { result ≡ samples_ok part.now }
 {
-    part.iter()
-        .fold(true, |good, sample| good & (*sample <= SAMPLE_MAX))
+    let mut good = true;
+    for sample in part {
+        good &= *sample <= SAMPLE_MAX;
+    }
+    good
 }
 
 // No sample of the window is over the greatest. The last chunk may overlap the one before it.
