@@ -11,11 +11,14 @@ fn has_room(room: usize, at: usize, count: usize) -> bool
     at <= room && count <= room - at
 }
 
-#[tactic(auto, using(crate::specs::CopiesLaws::part_pasted))]
+// One by one: C's `memmove`, by which the library copies a slice, is none that an archive for C may need.
 pub fn put<T: Copy>(out: &mut [T], at: usize, new: &[T])
     ensures { out.new ≡ pasted out.old at new.now }
 {
-    if has_room(out.len(), at, new.len()) {
-        out[at..at + new.len()].copy_from_slice(new);
+    if !has_room(out.len(), at, new.len()) {
+        return;
+    }
+    for i in 0..new.len() {
+        out[at + i] = new[i];
     }
 }

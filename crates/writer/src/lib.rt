@@ -64,8 +64,7 @@ pub fn post(
 {
     refusing::post_check(*state, store.len(), channel, window)?;
     let start = channel * window.len();
-    let end = start + window.len();
-    store[start..end].copy_from_slice(window);
+    copies::put(store, start, window);
     state.posted[channel] = true;
     Ok(())
 }

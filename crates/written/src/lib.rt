@@ -37,8 +37,11 @@ fn write_bytes(text: &mut [u8], at: usize, s: &[u8]) -> usize
     requires { at + length s.now ≤ length text.old }
     ensures { ((text.new, result) ≡ put (text.old, at) s.now) × (result ≡ at + length s.now) }
 {
-    let end = at + s.len();
-    text[at..end].copy_from_slice(s);
+    let mut end = at;
+    // Byte by byte: the library's copy is C's `memmove`, which no archive for C may need.
+    for b in s {
+        end = write_byte(text, end, *b);
+    }
     end
 }
 

@@ -1,7 +1,7 @@
 -- `writer::post` meets its contract: the row is a part of the store, and the window stands in it. Assumes nothing.
 use Rattle.std.proofs.Common.{sym, ap, ◌∙◌, ℕ, ◌+◌, ◌≤◌, ◌*◌, arith, length}
 use Rattle.ground.specs.Splice.{splice}
-use Rattle.ground.specs.SpliceLaws.{part_splice}
+use Rattle.copies.specs.CopiesLaws.{pasted_fits}
 use Rattle.state.specs.State.{with_mark}
 use Rattle.refusing.specs.TablesLaws.{PostAccepted, post_accepted}
 use Rattle.writer.specs.CallsLaws.{window_fits}
@@ -18,15 +18,6 @@ fits c = window_fits _ _ _ _ (known c)
 pub overflow_mul-start : goal.overflow_mul-start
 overflow_mul-start c = omega (arith, fits c, c.well_formed)
 
-pub overflow_add-end : goal.overflow_add-end
-overflow_add-end c = omega (arith, fits c, c.well_formed)
-
-pub offset_bounds-store-start : goal.offset_bounds-store-start
-offset_bounds-store-start c = omega (arith, fits c, c.well_formed)
-
-pub slice_bounds-copy_from_slice-end : goal.slice_bounds-copy_from_slice-end
-slice_bounds-copy_from_slice-end c = omega (arith, fits c, c.well_formed)
-
 pub bounds-state-channel : goal.bounds-state-channel
 bounds-state-channel c = omega (arith, (known (goal.at.bounds-state-channel c).In_ok-post_check).channel)
 
@@ -36,10 +27,11 @@ returns c =
     let a = c.args in
     let w = a.window.now in
     let number = c.in_ok-post_check.ensures in
+    let place = c.args.channel * length w in
     record {
       refusal = number;
       state = rw (← number);
       rows =
           rw (← number)
-          (part_splice a.store.now (a.channel * length w) (a.channel * length w + length w) w _ c.copy_from_slice.ensures.after (omega arith) ∙ ap (λ (n : ℕ). splice a.store.now (a.channel * n) w) (known (goal.at.returns c).In_ok-post_check).whole);
+          (c.put.ensures ∙ pasted_fits a.store.now place w (fits (goal.at.returns c).In_ok-post_check) ∙ ap (λ (n : ℕ). splice a.store.now (a.channel * n) w) (known (goal.at.returns c).In_ok-post_check).whole);
     }
