@@ -3,6 +3,7 @@ use Rattle.std.specs.Prelude.{ℕ, ◌≡◌, refl, Bool, true, false, cond, [],
 use Rattle.std.proofs.Common.{sym, ◌∙◌, eqb-true}
 use Rattle.std.proofs.Math.Path.{ap}
 use Rattle.items.specs.Items.{item_from}
+use Rattle.items.specs.declared.Form.{Form}
 use Rattle.scan.specs.declared.Scan.{Scan}
 use Rattle.scan.specs.After.{after}
 use Rattle.meaning.specs.declared.Meaning.{Meaning}
@@ -12,7 +13,9 @@ use Rattle.questions.specs.Questions.{refusal_of}
 use Rattle.reader.specs.Step.{Step}
 use Rattle.reader.specs.Step as S
 use Rattle.reader.specs.Judged.{Judged}
+use Rattle.reader.specs.Judged as J
 use Rattle.reader.specs.Reader.{step_by, step_at, with_item, judge_at}
+use Rattle.reader.specs.ReaderLaws.{judge_by}
 use Rattle.reader.specs.Answers.{row_type, item_values, step_number, step_values, judged_number, judged_values, number_at, values_by, values_at, StepSays, JudgedSays}
 
 module _ (s : Scan) (word : ℕ) where
@@ -71,3 +74,15 @@ module _ (s : Scan) (word : ℕ) where
         values = ap judged_values e ∙ judged_values_lem;
         answer = e;
       }
+
+  -- the same from what the step is
+  pub judge_went : (f : Form) (u : Scan) → S.Went f u ≡ step_at s word → JudgedSays s word (J.Took (item_from f word) u)
+  judge_went f u e = judge_says (sym (judge_by s word (sym e)))
+
+  pub judge_refused : (n p : ℕ) → S.Refused n p ≡ step_at s word → JudgedSays s word (J.Refused n p)
+  judge_refused n p e = judge_says (sym (judge_by s word (sym e)))
+
+  pub judge_ended : S.Ended ≡ step_at s word → JudgedSays s word J.Ended
+  judge_ended e = judge_says (sym (judge_by s word (sym e)))
+
+pub ruleset judged_step = (judge_went, judge_refused, judge_ended)

@@ -75,7 +75,9 @@ pub fn at_end(scan: Scan) -> Result<(), Refusal>
     Ok(())
 }
 
-// One word with its record.
+// One word with its record. In line: out of it the record is handed over in memory, and scalers take a third more time to list.
+#[inline(always)]
+#[tactic(auto, using(crate::specs::AnswersLaws::judged_step))]
 pub fn judge_at(scan: Scan, word: u32) -> Result<Option<(Item, Scan)>, Refused>
     ensures { JudgedSays scan word (judged_of result) }
 {

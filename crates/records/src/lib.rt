@@ -88,6 +88,7 @@ fn end_of(scan: Scan) -> Result<Next, Refused>
 }
 
 // The next record of the block whose first word is the first of `words`.
+#[tactic(auto, using(crate::specs::AnswersLaws::next_judged))]
 pub fn next(words: &[u32], scan: Scan) -> Result<Next, Refused>
     ensures { NextSays words.now scan (next_of result) }
 {

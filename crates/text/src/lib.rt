@@ -53,7 +53,6 @@ fn put_cells(text: &mut [u8], at: usize, cells: &[u64], dashes: u32) -> usize
 }
 
 // A line that may have no room.
-#[inline(never)]
 fn put_parts(text: &mut [u8], at: usize, name: &[u8], cells: &[u64], dashes: u32) -> usize
     ensures { (text.new, result) ≡ put (text.old, at) (line_text (line_of name.now (cells_of dashes cells.now))) }
 {
