@@ -19,7 +19,7 @@ use Rattle.finder.specs.declared.Pulse.{Pulse}
 use Rattle.finder.specs.Find.{pulse_at, pulses_from, no_pulse, searchable}
 use Rattle.finder.specs.Wanted.{pulse_of, pulse_from, is_tc}
 use Rattle.finder.specs.FindLaws.{Searched, can_search, tc_is}
-use Rattle.finder.specs.RangeLaws.{from_fits, asked_fits}
+use Rattle.finder.specs.RangeLaws.{from_fits}
 use Rattle.items.specs.declared.Item.{Item}
 use Rattle.items.specs.Items.{words_of, item_if}
 use Rattle.items.specs.ItemsLaws.{put_written, loop_room, loop_less, loop_none}
@@ -114,6 +114,6 @@ module _ (buf₀ : List ℕ) (at : ℕ) (m : Parts) (c : ℕ) (w : List ℕ) (t 
           let same : pulse_items m c w i p ≡ pulse_items m c w i (pulse_at w t nsb nsa tc) = ap (pulse_items m c w i) is ∙ same_items m c w t nsb nsa tc i (base_time w t tc over) in
           let l' = rw turn at l in
           let room = loop_room buf₀ at (pulses_items m c w 0 (pulses_from w t nsb nsa limit 0)) fits buf k (pulse_items m c w i (pulse_at w t nsb nsa tc)) _ l' in
-          let good : fits_in (length w) p ≡ true = rw is (fits_in_lem (length w) _ (from_fits _ w t nsb nsa tc _ over r.some (asked_fits (m.high || m.pedestal) w t tc over)) r.short) in
+          let good : fits_in (length w) p ≡ true = rw is (fits_in_lem (length w) _ (from_fits _ (m.high || m.pedestal) w t nsb nsa tc over r.some) r.short) in
           loop_less buf₀ at (pulses_items m c w 0 (pulses_from w t nsb nsa limit 0)) fits buf k (pulse_items m c w i (pulse_at w t nsb nsa tc)) _ k' buf' l'
           (rw same at (put_written (pulse_items m c w i p) good (rw same room) wr))

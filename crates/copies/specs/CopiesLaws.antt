@@ -1,10 +1,17 @@
--- Values that have room, copied. Assumes nothing.
-use Rattle.std.specs.Prelude.{ℕ, ◌+◌, ◌-◌, ◌≤◌, ◌<◌, ◌≡◌, List, ◌++◌, length, take, drop}
+-- Values that have room, asked by a difference, and copied. Assumes nothing.
+use Rattle.std.specs.Prelude.{ℕ, ◌+◌, ◌-◌, ◌≤◌, ◌<◌, ◌≡◌, false, List, ◌++◌, leb, length, take, drop}
 use Rattle.std.proofs.Common.{sym, ◌∙◌, arith, le-leb}
 use Rattle.std.proofs.lemmas.Bool.{lt-leb}
 use Rattle.ground.specs.Splice.{splice}
 use Rattle.ground.specs.SpliceLaws.{part_splice}
+use Rattle.ground.specs.TestsLaws.{same_test}
 use Rattle.copies.specs.Copies.{pasted}
+
+pub room_none : (room at count : ℕ) → room < at → false ≡ leb (at + count) room
+room_none room at count h = sym (lt-leb (at + count) room (omega arith))
+
+pub room_left : (room at count : ℕ) → at ≤ room → leb count (room - at) ≡ leb (at + count) room
+room_left room at count h = same_test count (room - at) (at + count) room (λ k. omega arith) (λ k. omega arith)
 
 module _ {A : Type 0} where
   pub pasted_fits : (out : List A) (at : ℕ) (new : List A) → at + length new ≤ length out → pasted out at new ≡ splice out at new

@@ -1,13 +1,13 @@
 -- The loops over numbers and marks. Assumes nothing.
 use Prim.Native.Nat.{ℕ, zero, suc, ◌+◌, ◌*◌, ◌/◌, ◌%◌, ◌^◌, ◌-◌, ◌≤◌, ◌<◌}
-use Rattle.std.specs.Prelude.{◌≡◌, refl, Bool, true, false, List, [], ◌∷◌, ◌++◌, ltb, eqb, length, set}
+use Rattle.std.specs.Prelude.{◌≡◌, refl, Bool, true, false, List, [], ◌∷◌, ◌++◌, ltb, eqb, length, get_or, drop, set}
 use Rattle.std.specs.Int.{from_bool}
 use Rattle.std.specs.List.{push}
-use Rattle.std.proofs.Common.{sym, ap, ◌∙◌, add-one, pow-suc, lt_of_lt_of_le, mod-lt, lt-ltb, le-ltb, pow_mono, pow_pos, append-nil, append_assoc, length-append}
+use Rattle.std.proofs.Common.{sym, ap, ◌∙◌, add-one, pow-suc, lt_of_lt_of_le, mod-lt, lt-ltb, le-ltb, pow_mono, pow_pos, append-nil, append_assoc, length-append, length-drop, drop-cons}
 use native.Mathlib.Omega.{arith}
 use Rattle.std.proofs.Math.Arith.{mod-mul}
 use Rattle.std.proofs.Math.Pow.{pow-lt}
-use Rattle.std.proofs.Math.Seq.{sets}
+use Rattle.std.proofs.Math.Seq.{sets, drop-length}
 use Rattle.numbers.specs.Numbers.{table, mark_bit, marks_number}
 
 -- ---- loops that fill a list, one place a turn: what is left to write
@@ -57,7 +57,20 @@ unfolding marks_number
 marks_small [] = omega arith
 marks_small (b ∷ bs) = rw (pow-suc 2 (length bs)) (omega (arith, marks_small bs, bit_le b))
 
--- from the last channel down: the number of the marks behind those that are left
+-- from the last channel down
+
+pub marks_turn : (bs : List Bool) (i j : ℕ) → i < length bs → suc i ≡ j → marks_number (drop i bs) ≡ mark_bit (get_or bs i false) + 2 * marks_number (drop j bs)
+unfolding marks_number
+marks_turn bs i j h e = ap marks_number (drop-cons bs i false h ∙ ap (λ (k : ℕ). get_or bs i false ∷ drop k bs) e)
+
+pub marks_at_lem : (bs : List Bool) (i : ℕ) → length bs ≤ 16 → marks_number (drop i bs) < 65536
+marks_at_lem bs i h = lt_of_lt_of_le (marks_small (drop i bs)) (pow_mono {j = 16} (rw (length-drop i bs) (omega arith)))
+
+pub marks_none : (bs : List Bool) → marks_number (drop (length bs) bs) ≡ 0
+unfolding marks_number
+marks_none bs = rw (drop-length bs)
+
+-- the number of the marks behind those that are left
 pub record Behind (marks left : List Bool) (number : ℕ) : Type 0 where
   pub behind : List Bool
   pub whole : marks ≡ left ++ behind

@@ -169,6 +169,10 @@ pub settings_short : (n : List ℕ) → length n < 16 → is_settings n ≡ fals
 unfolding is_settings
 settings_short n h = held_other settings_limits n (λ (e : length n ≡ settings_count). omega arith)
 
+-- a run of equal limits among those before the settings: each number there is of 32 bits
+pub front_32_at : (n : List ℕ) → is_state n ≡ true → (i : ℕ) → i < front_count → get_or front_limits i 0 ≡ most32 → get_or n i 0 % 4294967296 ≡ get_or n i 0
+front_32_at n e i h k = fits32 (front_held n e i h) k
+
 -- what is counted, as the code cuts it: 32 bits each, but for who was over
 pub scalers_asked : (l : List ℕ) {a b : Bool} → length l ≡ 38 → a ≡ all_le most32 (take 19 l) → b ≡ all_le most32 (drop 20 l) → a && (leb (get_or l 19 0) 65535 && b) ≡ held_in scaler_limits l
 unfolding held_in

@@ -31,6 +31,10 @@ pub row_end : (c n nw : ℕ) → c < n → c * nw + nw ≤ n * nw
 row_end c n nw h = rw (← suc-mul c nw) (mul-le-mul_right nw h)
 
 module _ (s : Settings) (posted : List Bool) (store : List ℕ) (lent : Lent s posted store) where
+  -- it lies in the store
+  pub row_inside : (c : ℕ) → c < length posted → c * s.nw + s.nw ≤ length store
+  row_inside c h = omega (arith, row_end c channels s.nw (omega (arith, lent.marks)), lent.rows)
+
   pub row_short : (c : ℕ) → length (take (c * s.nw + s.nw - c * s.nw) (drop (c * s.nw) store)) ≤ most_samples
   row_short c = simp length-take (omega (arith, (settings_in_range s lent.settings).nw.1))
 

@@ -21,8 +21,21 @@ use Rattle.reader.specs.RunLaws.{cons_at}
 use Rattle.raw.specs.Plain.{plain}
 use Rattle.stretches.specs.Stretches.{single, measure, All}
 use Rattle.stretches.specs.StretchesLaws.{all_none, all_one}
-use Rattle.runs.specs.Runs.{window_head, raw_head, head_size, standing, Behind, Passed, PassedTo}
+use Rattle.runs.specs.Runs.{window_head, raw_head, head_size, standing, Behind, Passed, PassedTo, HeadTo}
 use Rattle.runs.specs.StepsLaws.{measure_passed, window_passed, raw_passed, event_passed, clock_passed, high_passed, plain_passed, plain_raw, single_passed, single_raw, raw_end, timed_end, opened_end}
+
+-- nothing passed, and one run behind another
+pub passed_none : (words : List ℕ) (k : ℕ) → Passed words k k
+passed_none words k = record { ahead = omega arith; same = λ place slot left h. (let z : place + (k - k) ≡ place = omega arith in rw z) }
+
+pub passed_more : {words : List ℕ} {k m r : ℕ} → Passed words k m → Passed words m r → Passed words k r
+passed_more {words} {k} {m} {r} a b =
+    record {
+      ahead = omega arith;
+      same = λ place slot left h.
+          (let z : place + (m - k) + (r - m) ≡ place + (r - k) = omega arith in
+          a.same place slot left (omega arith) ∙ b.same (place + (m - k)) slot left (omega arith) ∙ ap (λ (n : ℕ). check_from (standing n slot left P.Items) (drop r words)) z);
+    }
 
 at_word : (words : List ℕ) (k : ℕ) (s : Scan) → k < length words → check_from s (drop k words) ≡ check_from s (get_or words k 0 ∷ drop (k + 1) words)
 at_word words k s l = ap (check_from s) (cons_at words k (k + 1) l (omega arith))
@@ -197,6 +210,12 @@ raw_run {words} {k} {m} {r} d a b u s t l e =
 
 -- ---- events
 
+pub items_passed : {words : List ℕ} {slot k left r : ℕ} → Passed words k r → PassedTo words slot k left r left
+items_passed {slot = slot} {left = left} a = record { ahead = a.ahead; same = λ place h. a.same place slot left h }
+
+pub events_none : {words : List ℕ} {slot k left : ℕ} → PassedTo words slot k left k left
+events_none {words} {slot} {k} {left} = items_passed (record { ahead = omega arith; same = λ place s l h. (let z : place + (k - k) ≡ place = omega arith in rw z) })
+
 pub events_more : {words : List ℕ} {slot k left m some r rest : ℕ} → PassedTo words slot k left m some → PassedTo words slot m some r rest → PassedTo words slot k left r rest
 events_more {words} {slot} {k} {left} {m} {some} {r} {rest} a b =
     record {
@@ -205,6 +224,15 @@ events_more {words} {slot} {k} {left} {m} {some} {r} {rest} a b =
           (let z : place + (m - k) + (r - m) ≡ place + (r - k) = omega arith in
           a.same place (omega arith) ∙ b.same (place + (m - k)) (omega arith) ∙ ap (λ (n : ℕ). check_from (standing n slot rest P.Items) (drop r words)) z);
     }
+
+-- by the second time word
+pub size_high : (low high : ℕ) {b : Bool} → is_continuation low ≡ false → is_defining 3 low ≡ true → is_continuation high ≡ true
+    → trigger_time_high_fixed high && eqb (read 23 0 high % 8) (read 26 24 low) ≡ b → cond b 3 0 ≡ head_size low high
+unfolding head_size
+size_high low high p q r e = rw (p, q, r, e)
+
+pub head_none : (words : List ℕ) (slot k : ℕ) → HeadTo words slot k k
+head_none words slot k = record { ahead = omega arith; event = λ h. absurd (omega arith) }
 
 -- an event's head: the header alone, or with one time word, before a defining word; or with both
 module _ (words : List ℕ) (slot k left : ℕ) (some : 1 ≤ left) (head : is_defining 2 (get_or words k 0) ≡ true) (same : read 26 22 (get_or words k 0) ≡ slot) where
@@ -295,6 +323,9 @@ behind_header s word e d n = by_stage s word e (λ words. opened_end s.place s.s
 
 pub behind_time : (s : Scan) (word : ℕ) {middle : ℕ} → s.stage ≡ P.Timed middle → is_continuation word ≡ false → Behind s word
 behind_time s word {middle} e d = by_stage s word e (λ words. timed_end s.place s.slot s.left word words d middle)
+
+pub behind_item : (s : Scan) (word : ℕ) → s.stage ≡ P.Items → Behind s word
+behind_item s word e = by_stage s word e (λ words. refl)
 
 pub onward_by : {words : List ℕ} {k r rest : ℕ} (s : Scan) {t : Scan} → k < length words → Behind s (get_or words k 0) → PassedTo words s.slot k s.left r rest
     → s.place + (r - k) ≤ 4194303 → t ≡ standing (s.place + (r - k)) s.slot rest P.Items → check_from s (drop k words) ≡ check_from t (drop r words)

@@ -1,7 +1,7 @@
 -- An amplitude's limit, over by the amplitude, and a window tested in parts. Assumes nothing.
 use Rattle.std.specs.Prelude.{ℕ, ◌+◌, ◌-◌, ◌≤◌, ◌<◌, ◌≡◌, refl, Bool, true, false, ◌&&◌, List, [], ◌∷◌, ◌++◌, leb, ltb, length, take, drop, get_or}
-use Rattle.std.proofs.Common.{sym, ap, ◌∙◌, append_assoc, length-append, length-drop, take_all, take-append-drop, arith}
-use Rattle.std.proofs.Math.Bool.{and_assoc, and-true}
+use Rattle.std.proofs.Common.{sym, ap, ◌∙◌, append_assoc, length-append, length-drop, take_all, take-append-drop, drop-drop, arith}
+use Rattle.std.proofs.Math.Bool.{and-false, and_assoc, and-true}
 use Rattle.std.proofs.lemmas.List.{take_more, drop-append-le}
 use Rattle.ground.specs.Tests.{all_le}
 use Rattle.ground.specs.TestsLaws.{and_right}
@@ -21,6 +21,26 @@ samples_parts : (a b : List ℕ) → samples_ok (a ++ b) ≡ samples_ok a && sam
 unfolding samples_ok all_le
 samples_parts [] b = refl
 samples_parts (x ∷ a) b = rw (samples_parts a b) (sym (and_assoc (leb x most_sample) (all_le most_sample a) (all_le most_sample b)))
+
+cut_at : (n : ℕ) (w : List ℕ) → samples_ok w ≡ samples_ok (take n w) && samples_ok (drop n w)
+cut_at n w = ap samples_ok (sym (take-append-drop n w)) ∙ samples_parts (take n w) (drop n w)
+
+-- from k on: the part up to e, and from e on
+pub part_then : (k e : ℕ) (w : List ℕ) (r : Bool) → k ≤ e → r ≡ samples_ok (take (e - k) (drop k w)) → samples_ok (drop k w) ≡ r && samples_ok (drop e w)
+part_then k e w r l h =
+    let z : k + (e - k) ≡ e = omega arith in
+    rw h (rw (drop-drop (e - k) k w, z) at (cut_at (e - k) (drop k w)))
+
+-- where all up to k passed, the part from l on, which may begin before k, tells of the whole
+pub part_last : (k l : ℕ) (w : List ℕ) (r : Bool) → samples_ok w ≡ samples_ok (drop k w) → l ≤ k → r ≡ samples_ok (take (length w - l) (drop l w)) → r ≡ samples_ok w
+part_last k l w r i g h =
+    let all = take_all (length w - l) (drop l w) (rw length-drop (omega arith)) in
+    let after = rw (← i) at (part_then l k w (samples_ok (take (k - l) (drop l w))) g refl) in
+    h ∙ rw all (same (samples_ok (take (k - l) (drop l w))) (samples_ok (take l w)) (samples_ok (drop l w)) (samples_ok w) after (cut_at l w))
+  where
+    same : (a b x y : Bool) → x ≡ a && y → y ≡ b && x → x ≡ y
+    same a b true y p q = sym (and_right a y (sym p))
+    same a b false y p q = sym (q ∙ and-false b)
 
 one_sample : (x : ℕ) → samples_ok (x ∷ []) ≡ leb x most_sample
 unfolding samples_ok all_le

@@ -1,7 +1,7 @@
 -- Frames in a row: seen in parts, added up, and counted from one frame on. Assumes nothing.
 use Rattle.std.specs.Prelude.{◌≡◌, ℕ, zero, suc, ◌+◌, ◌-◌, ◌*◌, ◌/◌, ◌%◌, ◌^◌, ◌<◌, ◌≤◌, min, Bool, List, [], ◌∷◌, ◌++◌, map, length, take, drop, replicate, refl}
 use Rattle.std.proofs.Math.Path.{sym, ap, ap₂}
-use Rattle.std.proofs.Common.{◌∙◌, append-nil, append_assoc, arith, length-append, take-take, take-append-drop, take_at, drop_at}
+use Rattle.std.proofs.Common.{◌∙◌, append-nil, append_assoc, arith, length-append, take-take, take-append-drop, take_at, drop_at, drop-drop}
 use Rattle.std.proofs.Math.ListN.{length-take, length-drop}
 use Rattle.ground.specs.Splice.{splice}
 use Rattle.ground.specs.SpliceLaws.{length_splice, splice_splice, splice_all}
@@ -20,6 +20,24 @@ unfolding frames_of frames_in
 frame_first frame rest e =
     let n : length (frame ++ rest) / frame_samples ≡ suc (length rest / frame_samples) = omega (arith, length-append frame rest) in
     rw (n, take_at frame rest 16 e, drop_at frame rest 16 e)
+
+pub frames_more : (samples : List ℕ) (at n : ℕ) → frames_in (suc n) (drop at samples) ≡ take frame_samples (drop at samples) ∷ frames_in n (drop (at + frame_samples) samples)
+unfolding frames_in
+frames_more samples at n = ap (λ (l : List ℕ). take frame_samples (drop at samples) ∷ frames_in n l) (drop-drop frame_samples at samples)
+
+-- so many frames in two parts
+pub frames_parts : (m n : ℕ) (samples : List ℕ) → frames_in (m + n) samples ≡ frames_in m samples ++ frames_in n (drop (frame_samples * m) samples)
+unfolding frames_in
+frames_parts zero n samples =
+    let e : 0 + n ≡ n = omega arith in
+    rw e
+frames_parts (suc m) n samples =
+    let e : suc m + n ≡ suc (m + n) = omega arith in
+    let k : frame_samples + frame_samples * m ≡ frame_samples * suc m = omega arith in
+    let d : drop (frame_samples * m) (drop frame_samples samples) ≡ drop (frame_samples * suc m) samples = drop-drop (frame_samples * m) frame_samples samples ∙ ap (λ (j : ℕ). drop j samples) k in
+    ap (λ (j : ℕ). frames_in j samples) e
+    ∙ ap (λ (l : List (List ℕ)). take frame_samples samples ∷ l)
+    (frames_parts m n (drop frame_samples samples) ∙ ap (λ (l : List ℕ). frames_in m (drop frame_samples samples) ++ frames_in n l) d)
 
 -- frames in two parts, the first of them whole
 pub frames_joined : (many : ℕ) (part rest : List ℕ) → length part ≡ frame_samples * many → frames_of (part ++ rest) ≡ frames_of part ++ frames_of rest
@@ -60,6 +78,13 @@ frames_part zero samples size h = refl
 frames_part (suc m) samples size h =
     ap₂ (λ (f : List ℕ) (fs : List (List ℕ)). f ∷ fs) (take-take frame_samples size samples (omega arith))
     (ap (frames_in m) (drop_take frame_samples size samples) ∙ frames_part m (drop frame_samples samples) (size - frame_samples) (omega arith))
+
+-- the frames of a part that is lent
+pub part_frames : (samples : List ℕ) (at size m : ℕ) → size ≡ frame_samples * m → at + size ≤ length samples → frames_of (take size (drop at samples)) ≡ frames_in m (drop at samples)
+unfolding frames_of
+part_frames samples at size m e h =
+    let n : length (take size (drop at samples)) / frame_samples ≡ m = omega (arith, length-take size (drop at samples), length-drop at samples) in
+    rw n (frames_part m (drop at samples) size (omega arith))
 
 -- the samples that are seen before what they add is added up
 abbrev most_seen : ℕ

@@ -104,3 +104,8 @@ unfolding overs_of
 overs_narrow [] f = refl
 overs_narrow (t ∷ ts) [] = refl
 overs_narrow (t ∷ ts) (x ∷ xs) = ap₂ (λ (b : Bool) (bs : List Bool). b ∷ bs) (over_narrow t x) (overs_narrow ts xs)
+
+pub narrow_under : (ts : List ℕ) → Under 65535 (map narrow_of ts)
+unfolding narrow_of
+narrow_under [] = tt
+narrow_under (t ∷ ts) = (omega arith, narrow_under ts)

@@ -3,10 +3,11 @@ use Rattle.std.specs.Prelude.{ℕ, zero, suc, ◌+◌, ◌-◌, ◌*◌, ◌/◌
 use Rattle.std.specs.Simd.{first_chunks}
 use Rattle.std.proofs.Common.{sym, ◌∙◌, arith, le-ltb, suc-mul, drop-drop, add-one, mul-le-mul_right, div-mul-le_self, mod-lt, length-take, length-drop}
 use Rattle.std.proofs.Math.Nat.{mod-eq-sub-div-mul}
-use Rattle.std.proofs.lemmas.List.{get_or-take, get_or-drop, take_rest}
+use Rattle.std.proofs.lemmas.List.{get_or-take, get_or-drop, get_or_past, take_rest}
 use Rattle.std.proofs.lemmas.List.Elements.{All-nil, All-cons}
 use Rattle.samples.specs.Sample.{amp, is_over}
 use Rattle.std.proofs.Math.Bool.{and-true, and-false}
+use Rattle.std.proofs.Math.Decide.{dec_le}
 use Rattle.ground.specs.Search.{least}
 use Rattle.ground.specs.ChunkLaws.{chunk_at}
 use Rattle.ground.specs.SearchLaws.{IsLeast, least_pass, least_here, least_end, least_found, least_none}
@@ -62,20 +63,23 @@ fold_none_over t high (x ∷ xs) l =
     (omega (arith, r.0), All-cons (λ (x : ℕ). amp x ≤ t) x xs (omega (arith, r.0)) r.1)
 
 -- where no sample of a chunk from a on is over, the search goes on to its end; the chunk may begin before the search stands
-pub chunk_none : (w : List ℕ) (t s k e a n m : ℕ) → Passed (over w t) s e k → NoneOver t (take n (drop a w)) → a + n ≤ length w → a ≤ k → k ≤ m → m ≤ a + n → m ≤ e
+pub chunk_none : (w : List ℕ) (t s k e a n m : ℕ) → Passed (over w t) s e k → NoneOver t (take n (drop a w)) → a ≤ k → k ≤ m → m ≤ a + n → m ≤ e
     → Passed (over w t) s e m
-unfolding over is_over
-chunk_none w t s k e a n m i h fit g l q f =
+unfolding over is_over amp
+chunk_none w t s k e a n m i h g l q f =
     let pass = least_to (over w t) k m e l f (λ j x y. le-ltb t (amp (get_or w (j - 1) 0)) (low j (omega arith) (omega arith))) in
     record { from = omega arith; to = f; same = i.same ∙ pass }
   where
-    long : length (take n (drop a w)) ≡ n
-    long = simp (length-take, length-drop) (omega arith)
-
+    -- behind the window there is no sample, whose amplitude would be 0
     low : (j : ℕ) → a < j → j ≤ a + n → amp (get_or w (j - 1) 0) ≤ t
     low j x y =
-        let z : a + (j - 1 - a) ≡ j - 1 = omega arith in
-        rw (get_or-take n (drop a w) (j - 1 - a) 0 (omega arith), get_or-drop a w (j - 1 - a) 0, z) at (h (j - 1 - a) 0 (omega (arith, long)))
+        elim (dec_le j (length w)) [
+          | yes u ↦
+              (let z : a + (j - 1 - a) ≡ j - 1 = omega arith in
+              let long : j - 1 - a < length (take n (drop a w)) = simp (length-take, length-drop) (omega arith) in
+              rw (get_or-take n (drop a w) (j - 1 - a) 0 (omega arith), get_or-drop a w (j - 1 - a) 0, z) at (h (j - 1 - a) 0 long))
+          | no u ↦ rw (get_or_past w (j - 1) 0 (omega arith)) (omega arith)
+        ]
 
 -- the samples after s in chunks: the search may go on behind the i-th, and so behind the next
 pub chunk_next : (w : List ℕ) (t s n i : ℕ) (chunk : List ℕ) → let v : List ℕ = take (length w - s) (drop s w) in s ≤ length w → i < length v / n
@@ -87,7 +91,7 @@ chunk_next w t s n i chunk h l e q p =
     let below : (i + 1) * n ≤ length v / n * n = mul-le-mul_right n (omega arith) in
     let fit : (i + 1) * n ≤ length w - s = omega (arith, below, all, div-mul-le_self (length v) n) in
     let here = rw (take_rest w s, drop-drop (i * n) s w) at (e ∙ chunk_at n (length v / n) i v chunk l) in
-    chunk_none w t s (s + i * n) (length w) (s + i * n) n _ p (rw here at q) (omega arith) (omega arith) (omega arith) (omega arith) (omega arith)
+    chunk_none w t s (s + i * n) (length w) (s + i * n) n _ p (rw here at q) (omega arith) (omega arith) (omega arith) (omega arith)
 
 -- and behind all of them to the end, where the last n samples are quiet
 pub chunk_last : (w : List ℕ) (t s n : ℕ) (last : List ℕ) → let v : List ℕ = take (length w - s) (drop s w) in 1 ≤ n → s ≤ length w → n ≤ length w
@@ -99,7 +103,7 @@ chunk_last w t s n last a h l e q p =
     let all : length v ≡ length w - s = rw take_rest (length-drop s w) in
     let few : length v % n < n = mod-lt (length v) a in
     let left = mod-eq-sub-div-mul (length v) n in
-    chunk_none w t s (s + length v / n * n) (length w) (length w - n) n (length w) p (rw here (rw e at q)) (omega arith) (omega arith) p.to (omega arith) (omega arith)
+    chunk_none w t s (s + length v / n * n) (length w) (length w - n) n (length w) p (rw here (rw e at q)) (omega arith) p.to (omega arith) (omega arith)
 
 -- or where nothing is left behind them
 pub chunk_all : (w : List ℕ) (t s n : ℕ) → let v : List ℕ = take (length w - s) (drop s w) in s ≤ length w → length v % n ≡ 0

@@ -2,7 +2,7 @@
 use Prim.Native.Nat.{ℕ, zero, suc, ◌+◌, ◌-◌, ◌*◌, ◌/◌, ◌≤◌, ◌<◌}
 use Rattle.std.specs.Prelude.{◌≡◌, Bool, false, ◌&&◌, cond, length, get_or, take, drop}
 use Rattle.std.proofs.Math.Path.{refl}
-use Rattle.std.proofs.Common.{sym, ap, ◌∙◌, arith}
+use Rattle.std.proofs.Common.{sym, ap, ◌∙◌, true≢false, arith}
 use Rattle.std.proofs.Math.Bool.{true}
 use mathlib.Core.List.{List, [], ◌∷◌}
 use Rattle.std.proofs.Math.Decide.{dec_le}
@@ -66,7 +66,10 @@ module _ (p : ℕ → Bool) where
 -- ---- a search
 
 module _ {p : ℕ → Bool} {bytes : List ℕ} where
-  row_one : {k : ℕ} → Row p bytes k → 4 * k + 4 ≤ length bytes → p (get_or (words_of_bytes bytes) k 0) ≡ true → Row p bytes (k + 1)
+  pub row_none : Row p bytes 0
+  row_none = record { within = omega arith; each = λ i h. absurd (omega arith) }
+
+  pub row_one : {k : ℕ} → Row p bytes k → 4 * k + 4 ≤ length bytes → p (get_or (words_of_bytes bytes) k 0) ≡ true → Row p bytes (k + 1)
   row_one {k} r l e = record { within = omega arith; each = at }
     where
       at : (i : ℕ) → i < k + 1 → p (get_or (words_of_bytes bytes) i 0) ≡ true
@@ -76,9 +79,17 @@ module _ {p : ℕ → Bool} {bytes : List ℕ} where
             | no g ↦ r.each i (omega arith)
           ]
 
+  pub row_turn : {k : ℕ} {good test : Bool} → (good ≡ true → Row p bytes k) → 4 * k + 4 ≤ length bytes → test ≡ p (get_or (words_of_bytes bytes) k 0)
+      → good && test ≡ true → Row p bytes (k + 1)
+  row_turn {good = good} {test = test} r l e h = row_one (r (and_left good test h)) l (sym e ∙ and_right good test h)
+
+  -- the same of a chunk that may say no
+  pub told_none : {k : ℕ} → Row p bytes k → Told p bytes k true
+  told_none r = record { yes = λ h. r; no = λ h. absurd (true≢false h) }
+
   -- a turn of a chunk, whose answer is joined to those so far
   pub told_turn : {k : ℕ} {good test : Bool} → Told p bytes k good → 4 * k + 4 ≤ length bytes → test ≡ p (get_or (words_of_bytes bytes) k 0) → Told p bytes (k + 1) (good && test)
-  told_turn {k} {good} {test} t l e = record { yes = λ h. row_one (t.yes (and_left good test h)) l (sym e ∙ and_right good test h); no = not_all good refl }
+  told_turn {k} {good} {test} t l e = record { yes = row_turn t.yes l e; no = not_all good refl }
     where
       not_all : (b : Bool) → good ≡ b → good && test ≡ false → every p (words_of_bytes bytes) ≡ false
       not_all false g h = t.no g
