@@ -87,8 +87,11 @@ pub fn fadc250_find(settings: &[u64], channel: u32, window: &[u16], out: &mut [u
         return Refusal::Setting.number();
     }
     let loaded = settings_or_none(settings);
-    match find::find(loaded, channel as usize, window) {
-        Ok(_) if out.len() < FOUND => refusals::BAD_ARRAY,
+    let answer = find::find(loaded, channel as usize, window);
+    if out.len() < FOUND {
+        return refusals::told_bad_array(answer);
+    }
+    match answer {
         Ok(found) => {
             put_found(out, found);
             0

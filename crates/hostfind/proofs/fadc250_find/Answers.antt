@@ -8,15 +8,17 @@ pub returns-then-not-is_settings : goal.returns-then-not-is_settings
 returns-then-not-is_settings c =
     find_none _ _ _ _ (sym c.is_settings.ensures ∙ c.if-not-is_settings.true) c.clear.ensures c.number.ensures
 
-pub returns-in-Ok : goal.returns-in-Ok
-returns-in-Ok c = find_short _ _ _ _ c.settings_or_none-loaded.ensures c.in-Ok.ensures refl c.if-out-lt-FOUND.true
+pub returns-then-out-lt-FOUND : goal.returns-then-out-lt-FOUND
+returns-then-out-lt-FOUND c =
+    find_short _ _ _ _ c.settings_or_none-loaded.ensures c.find-answer.ensures c.told_bad_array.ensures c.if-out-lt-FOUND.true
 
 pub put_found-requires : goal.put_found-requires
-put_found-requires c = (c.if-out-lt-FOUND.false, found_small _ _ _ _ c.in-Ok.ensures)
+put_found-requires c = (c.if-out-lt-FOUND.false, found_small _ _ _ _ (rw c.in-Ok.is at c.find-answer.ensures))
 
-pub returns-in-Ok-2 : goal.returns-in-Ok-2
-returns-in-Ok-2 c = find_face _ _ _ _ c.settings_or_none-loaded.ensures c.in-Ok.ensures c.if-out-lt-FOUND.false c.put_found.ensures refl
+pub returns-in-Ok : goal.returns-in-Ok
+returns-in-Ok c =
+    find_face _ _ _ _ c.settings_or_none-loaded.ensures (rw c.in-Ok.is at c.find-answer.ensures) c.if-out-lt-FOUND.false c.put_found.ensures refl
 
 pub returns-in-Err : goal.returns-in-Err
 returns-in-Err c =
-    find_refused _ _ _ _ c.settings_or_none-loaded.ensures c.in-Err.ensures (number_some c.in-Err.refusal) refl c.clear-in-Err.ensures c.number-in-Err.ensures
+    find_refused _ _ _ _ c.settings_or_none-loaded.ensures (rw c.in-Err.is at c.find-answer.ensures) (number_some c.in-Err.refusal) refl c.clear-in-Err.ensures c.number-in-Err.ensures
